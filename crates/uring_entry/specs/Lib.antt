@@ -1,0 +1,6 @@
+pub mod Words
+pub mod FlagBits
+pub mod Completions
+pub mod Loans
+pub mod Lending
+pub mod Sizes
