@@ -1,5 +1,5 @@
 -- What a completion's flags say.
-use Rattle.std.specs.Prelude.{ℕ, Bool, not, List, [], ◌∷◌}
+use Rattle.std.specs.Prelude.{ℕ, Bool, not, [], ◌∷◌}
 use Rattle.uring_entry.specs.FlagBits.{has_bit}
 use Rattle.uring_entry.specs.declared.events.Completion.{Completion}
 

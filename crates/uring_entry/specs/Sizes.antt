@@ -1,5 +1,5 @@
 -- The sizes of a pair of rings.
-use Rattle.std.specs.Prelude.{◌≡◌, ℕ, ◌≤◌, ◌<◌, ◌*◌, ◌^◌, Bool, ◌&&◌, nat_lt, nat_le, if◌then◌else◌, zero, suc}
+use Rattle.std.specs.Prelude.{ℕ, ◌*◌, Bool, ◌&&◌, nat_lt, nat_le, if◌then◌else◌, zero, suc}
 
 -- the least power of two, from `power` on, that is at least n, in so many doublings at the most
 abbrev pub up_from : ℕ → ℕ → ℕ → ℕ
