@@ -1,0 +1,98 @@
+-- Moves of one call after another: what they took and posted, and what they make of a log and a state.
+use Rattle.std.specs.Prelude.{◌≡◌, Bool, true, false, List, [], ◌∷◌, ◌++◌, map, Option, Some, None, refl}
+use Rattle.std.proofs.lemmas.List.{map-append}
+use Rattle.std.proofs.Common.{ap, sym, subst, ◌∙◌, append_assoc, append-nil}
+use Rattle.uring_entry.specs.declared.events.LogEvent.{LogEvent}
+use Rattle.uring_entry.specs.declared.events.Taken.{Taken}
+use Rattle.uring_entry.specs.declared.events.Completion.{Completion}
+use Rattle.uring_model.specs.Chosen.{choice, stops}
+use Rattle.uring_model.specs.Moves.{Move, Turned, Took, Posted, took, posted, logged, log_of, IsLogged}
+use Rattle.uring_model.specs.Partner.{PartnerState, answer_to, after_take, after_settle, Steps, IsServed}
+
+-- what was taken and posted
+
+pub took-append : (ms ns : List Move) → took (ms ++ ns) ≡ took ms ++ took ns
+took-append [] ns = refl
+took-append (Turned p ∷ ms) ns = took-append ms ns
+took-append (Took t ∷ ms) ns = ap (λ ts. t ∷ ts) (took-append ms ns)
+took-append (Posted c ∷ ms) ns = took-append ms ns
+
+pub posted-append : (ms ns : List Move) → posted (ms ++ ns) ≡ posted ms ++ posted ns
+posted-append [] ns = refl
+posted-append (Turned p ∷ ms) ns = posted-append ms ns
+posted-append (Took t ∷ ms) ns = posted-append ms ns
+posted-append (Posted c ∷ ms) ns = ap (λ cs. c ∷ cs) (posted-append ms ns)
+
+took_posts : (cs : List Completion) → took (map Posted cs) ≡ []
+took_posts [] = refl
+took_posts (c ∷ cs) = took_posts cs
+
+pub took_turn : (ts : List Taken) (cs : List Completion) → took (map Took ts ++ map Posted cs) ≡ ts
+took_turn [] cs = took_posts cs
+took_turn (t ∷ ts) cs = ap (λ l. t ∷ l) (took_turn ts cs)
+
+posted_posts : (cs : List Completion) → posted (map Posted cs) ≡ cs
+posted_posts [] = refl
+posted_posts (c ∷ cs) = ap (λ l. c ∷ l) (posted_posts cs)
+
+pub posted_turn : (ts : List Taken) (cs : List Completion) → posted (map Took ts ++ map Posted cs) ≡ cs
+posted_turn [] cs = posted_posts cs
+posted_turn (t ∷ ts) cs = posted_turn ts cs
+
+-- the log
+
+pub log-append : (ms ns : List Move) → log_of (ms ++ ns) ≡ log_of ms ++ log_of ns
+log-append ms ns = map-append logged ms ns
+
+pub IsLogged-append : (a b c : Option (List LogEvent)) (ms ns : List Move) → IsLogged a ms b → IsLogged b ns c → IsLogged a (ms ++ ns) c
+IsLogged-append None b c ms ns p q = let h : IsLogged None ns c = subst (λ x. IsLogged x ns c) p q in h
+IsLogged-append (Some a) b c ms ns p q =
+    let h : IsLogged (Some (a ++ log_of ms)) ns c = subst (λ x. IsLogged x ns c) p q in
+    h ∙ ap Some (append_assoc a (log_of ms) (log_of ns) ∙ ap (λ l. a ++ l) (sym (log-append ms ns)))
+
+pub IsLogged-none : (l : Option (List LogEvent)) → IsLogged l [] l
+IsLogged-none None = refl
+IsLogged-none (Some l) = ap Some (sym (append-nil l))
+
+-- the state: a call makes no move, or begins with a turn, so what stood before it doesn't matter
+
+abbrev pub BeginsTurn : List Move → Type 0
+BeginsTurn [] = Unit {0}
+BeginsTurn (Turned p ∷ ms) = Unit {0}
+BeginsTurn (Took t ∷ ms) = ⊥
+BeginsTurn (Posted c ∷ ms) = ⊥
+
+pub from_turn : (over was : Bool) (a b : PartnerState) (ms : List Move) → BeginsTurn ms → Steps was a ms b → Steps over a ms b
+from_turn over was a b [] t h = h
+from_turn over was a b (Turned p ∷ ms) t h = h
+from_turn over was a b (Took u ∷ ms) t h = absurd t
+from_turn over was a b (Posted c ∷ ms) t h = absurd t
+
+pub Steps-append : (over was : Bool) (a b c : PartnerState) (ms ns : List Move) → Steps over a ms b → BeginsTurn ns → Steps was b ns c → Steps over a (ms ++ ns) c
+Steps-append over was a b c [] ns h t k = from_turn over was a c ns t (subst (λ x. Steps was x ns c) h k)
+Steps-append over was a b c (Turned p ∷ ms) ns h t k = Steps-append false was a b c ms ns h t k
+Steps-append over was a b c (Took u ∷ ms) ns h t k = (h.0, Steps-append false was (after_take a u) b c ms ns h.1 t k)
+Steps-append over was a b c (Posted u ∷ ms) ns h t k = (h.0, h.1, Steps-append (stops (choice a.choices)) was (after_settle a h.1.cursor (answer_to a.files h.1.cursor)) b c ms ns h.2 t k)
+
+pub served_begins : (a b : PartnerState) (ms : List Move) → Steps true a ms b → BeginsTurn ms
+served_begins a b [] h = tt
+served_begins a b (Turned p ∷ ms) h = tt
+served_begins a b (Took t ∷ ms) h = cc
+served_begins a b (Posted c ∷ ms) h = cc
+
+-- moves of whole calls lead on from anything that was before
+pub served_from : (over : Bool) (a b : PartnerState) (ms : List Move) → Steps true a ms b → Steps over a ms b
+served_from over a b ms h = from_turn over true a b ms (served_begins a b ms h) h
+
+pub served_join : (a b c : PartnerState) (ms ns : List Move) → Steps true a ms b → Steps true b ns c → Steps true a (ms ++ ns) c
+served_join a b c ms ns h k = Steps-append true true a b c ms ns h (served_begins b c ns k) k
+
+pub IsServed-append : (a b c : Option PartnerState) (ms ns : List Move) → IsServed a ms b → IsServed b ns c → IsServed a (ms ++ ns) c
+IsServed-append None b c ms ns p q = let h : IsServed None ns c = subst (λ x. IsServed x ns c) p q in h
+IsServed-append (Some a) None c ms ns p q = absurd (p tt)
+IsServed-append (Some a) (Some b) None ms ns p q = q
+IsServed-append (Some a) (Some b) (Some c) ms ns p q = served_join a b c ms ns p q
+
+pub IsServed-none : (s : Option PartnerState) → IsServed s [] s
+IsServed-none None = refl
+IsServed-none (Some s) = refl

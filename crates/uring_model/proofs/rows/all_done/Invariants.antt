@@ -1,0 +1,7 @@
+use Rattle.std.proofs.Common.{◌≡◌, drop}
+use Rattle.uring_model.specs.Replay.{all_done}
+use Rattle.uring_model.specs.Rows.{rows_in}
+use Rattle.uring_model.proofs.rows.all_done.Given as goal
+
+abbrev pub invariant-loop-row : goal.invariant-loop-row
+invariant-loop-row l = all_done (rows_in (drop l.row-index l.rows)) ≡ all_done (rows_in l.rows)

@@ -1,0 +1,57 @@
+-- What the moves of a partner whose files are told mean.
+use Rattle.std.specs.Prelude.{◌≡◌, ℕ, ◌+◌, false, List, [], ◌∷◌, ◌++◌, length, map, replicate, Option, Some, None, slice_get, slice_set}
+use Rattle.uring_entry.specs.declared.events.Taken.{Taken}
+use Rattle.uring_entry.specs.declared.events.Completion.{Completion}
+use Rattle.uring_entry.specs.Loans.{part_of}
+use Rattle.uring_model.specs.Machine.{Files}
+use Rattle.uring_model.specs.Jobs.{Job}
+use Rattle.uring_model.specs.Replay.{Result, State, last_unlinked, first_state, replay, table}
+use Rattle.uring_model.specs.Chosen.{IsChosen}
+use Rattle.uring_model.specs.Moves.{Move, took, posted, journal_of, log_of}
+use Rattle.uring_model.specs.Partner.{job_of, PartnerState, Steps, IsServed, IsIdle, idle}
+
+-- the entries carry the numbers from n on
+abbrev pub Numbered : ℕ → List Taken → Type 0
+Numbered n [] = Unit {0}
+Numbered n (t ∷ ts) = (t.entry.user_data ≡ n) × Numbered (n + 1) ts
+
+-- the table of outcomes with what a completion says of its job: the result, and the part of the loan that came back
+abbrev pub record_one : List (Option Result) → Completion → List (Option Result)
+record_one outs c = slice_set outs c.user_data (Some (record { result = c.result; buf = part_of c.loan }))
+
+abbrev pub record_all : List (Option Result) → List Completion → List (Option Result)
+record_all outs [] = outs
+record_all outs (c ∷ cs) = record_all (record_one outs c) cs
+
+-- each completion is the first of its job
+abbrev pub AllFresh : List (Option Result) → List Completion → Type 0
+AllFresh outs [] = Unit {0}
+AllFresh outs (c ∷ cs) = (slice_get outs c.user_data ≡ Some None) × AllFresh (record_one outs c) cs
+
+-- The journal of the moves replays to a state, chosen by the choices. The state has the partner's files, and its
+-- outcomes are what the completions say, each of them the first of its job.
+pub record Explained (jobs : List Job) (files : Files) (choices : List ℕ) (ms : List Move) (b : PartnerState) : Type 0 where
+  pub state : State
+  pub replays : replay jobs files (journal_of (log_of ms)) ≡ Some state
+  pub chosen : IsChosen (journal_of (log_of ms)) choices false (first_state jobs files)
+  pub files_at_end : state.files ≡ b.files
+  pub outcomes : table state ≡ record_all (replicate (length jobs) None) (posted ms)
+  pub fresh : AllFresh (replicate (length jobs) None) (posted ms)
+
+-- the law: entries that ask what the jobs ask, in their order and by their numbers, are served from an idle partner
+abbrev pub MovesAreExplained : Type 0
+MovesAreExplained =
+    (jobs : List Job) (files : Files) (choices : List ℕ) (ms : List Move) (ahead : List Taken) (b : PartnerState)
+    → map job_of (took ms ++ ahead) ≡ last_unlinked jobs → Numbered 0 (took ms ++ ahead) → Steps false (idle files choices) ms b → Explained jobs files choices ms b
+
+-- the same for whole calls
+abbrev pub CallsAreExplained : Type 0
+CallsAreExplained =
+    (jobs : List Job) (files : Files) (choices : List ℕ) (ms : List Move) (ahead : List Taken) (b : PartnerState)
+    → map job_of (took ms ++ ahead) ≡ last_unlinked jobs → Numbered 0 (took ms ++ ahead) → IsServed (Some (idle files choices)) ms (Some b) → Explained jobs files choices ms b
+
+-- the same for whole calls to any partner that is idle
+abbrev pub IdlePartnersAreExplained : Type 0
+IdlePartnersAreExplained =
+    (jobs : List Job) (ms : List Move) (ahead : List Taken) (a b : PartnerState)
+    → IsIdle a → map job_of (took ms ++ ahead) ≡ last_unlinked jobs → Numbered 0 (took ms ++ ahead) → IsServed (Some a) ms (Some b) → Explained jobs a.files a.choices ms b

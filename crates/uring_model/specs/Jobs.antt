@@ -1,0 +1,76 @@
+-- A job as the definitions see it, and what a job of the program is there.
+use Rattle.std.specs.Prelude.{ℕ, ◌+◌, Bool, true, false, ◌&&◌, nat_le, List, [], length, map}
+use Rattle.uring_model.specs.declared.jobs.Link.{Link}
+use Rattle.uring_model.specs.declared.jobs.Link.TheVariants.{Free, Soft, Hard}
+use Rattle.uring_model.specs.declared.jobs.Job as code
+use Rattle.uring_model.specs.declared.jobs.JobKind.{JobKind}
+use Rattle.uring_model.specs.declared.jobs.JobKind.TheVariants as kinds
+use Rattle.uring_model.specs.Machine.{Op, Nop, Read, Write, Fsync, Ftruncate, Cancel, Refused}
+
+-- what it asks, its buffer (empty where it has none), and its marks
+pub record Job : Type 0 where
+  pub op : Op
+  pub buf : List ℕ
+  pub drain : Bool
+  pub link : Link
+
+-- whether the next job, if any, hangs on this one
+abbrev pub linked : Link → Bool
+linked Free = false
+linked Soft = true
+linked Hard = true
+
+abbrev pub is_soft : Link → Bool
+is_soft Free = false
+is_soft Soft = true
+is_soft Hard = false
+
+-- a read or write, which alone has a buffer
+abbrev pub moves_bytes : Op → Bool
+moves_bytes Nop = false
+moves_bytes (Read file offset) = true
+moves_bytes (Write file offset) = true
+moves_bytes (Fsync file) = false
+moves_bytes (Ftruncate file len) = false
+moves_bytes (Cancel t) = false
+moves_bytes (Refused code) = false
+
+-- positions and lengths stay below 2 ^ 63, and a count fits a result
+abbrev pub is_valid_at : ℕ → List ℕ → Bool
+is_valid_at offset buf = nat_le (length buf) 2147483647 && nat_le (offset + length buf) 9223372036854775807
+
+abbrev pub is_valid_op : Op → List ℕ → Bool
+is_valid_op Nop buf = true
+is_valid_op (Read file offset) buf = is_valid_at offset buf
+is_valid_op (Write file offset) buf = is_valid_at offset buf
+is_valid_op (Fsync file) buf = true
+is_valid_op (Ftruncate file len) buf = nat_le len 9223372036854775807
+is_valid_op (Cancel t) buf = true
+is_valid_op (Refused code) buf = true
+
+abbrev pub is_valid_job : Job → Bool
+is_valid_job job = is_valid_op job.op job.buf
+
+-- a job of the program
+
+abbrev pub op_asked : JobKind → Op
+op_asked kinds.Nop = Nop
+op_asked (kinds.Read file offset buf) = Read file offset
+op_asked (kinds.Write file offset buf) = Write file offset
+op_asked (kinds.Fsync file) = Fsync file
+op_asked (kinds.Ftruncate file len) = Ftruncate file len
+op_asked (kinds.Cancel job) = Cancel job
+
+abbrev pub buf_lent : JobKind → List ℕ
+buf_lent kinds.Nop = []
+buf_lent (kinds.Read file offset buf) = buf
+buf_lent (kinds.Write file offset buf) = buf
+buf_lent (kinds.Fsync file) = []
+buf_lent (kinds.Ftruncate file len) = []
+buf_lent (kinds.Cancel job) = []
+
+abbrev pub asked : code.Job → Job
+asked job = record { op = op_asked job.kind; buf = buf_lent job.kind; drain = job.drain; link = job.link }
+
+abbrev pub all_asked : List code.Job → List Job
+all_asked jobs = map asked jobs

@@ -1,0 +1,67 @@
+-- A replay's state as the program holds it.
+use Rattle.std.specs.Prelude.{◌<◌, ◌^◌, Bool, false, not, cond, List, [], ◌∷◌, ◌++◌, length, map, replicate, Option, Some, None}
+use Rattle.std.specs.List.{All}
+use Rattle.uring_model.specs.declared.jobs.Job as jobs
+use Rattle.uring_model.specs.declared.jobs.Outcome.{Outcome}
+use Rattle.uring_model.specs.declared.rows.Settled.{Settled}
+use Rattle.uring_model.specs.declared.rows.Row as code
+use Rattle.uring_model.specs.declared.settling.Settling.{Settling}
+use Rattle.uring_model.specs.declared.replayed.Replayed.{Replayed}
+use Rattle.uring_model.specs.Machine.{Files, Answer}
+use Rattle.uring_model.specs.Jobs.{Job, asked, all_asked, buf_lent, moves_bytes}
+use Rattle.uring_model.specs.Replay.{Row, Open, Done, Result, Place, State}
+
+abbrev pub result_in : Settled → Result
+result_in settled = record { result = settled.result; buf = settled.buf }
+
+abbrev pub row_of : Job → Bool → Option Settled → Row
+row_of job marked None = Open job marked
+row_of job marked (Some settled) = Done job (result_in settled)
+
+abbrev pub row_in : code.Row → Row
+row_in row = row_of (asked row.job) row.marked row.outcome
+
+abbrev pub rows_in : List code.Row → List Row
+rows_in rows = map row_in rows
+
+-- the length of the job's buffer is a result
+abbrev pub HasCount : jobs.Job → Type 0
+HasCount job = length (buf_lent job.kind) < 2 ^ 31
+
+abbrev pub HasCounts : List code.Row → Type 0
+HasCounts rows = All (λ row. HasCount row.job) rows
+
+abbrev pub is_markable : Option Row → Bool
+is_markable None = false
+is_markable (Some (Open job m)) = not m
+is_markable (Some (Done job r)) = false
+
+-- what the program says of a job: nothing where it has no outcome, and its buffer where it has one
+abbrev pub outcome_told : Job → Result → Outcome
+outcome_told job r = record { result = r.result; buf = cond (moves_bytes job.op) (Some r.buf) None }
+
+abbrev pub outcomes_told : List Row → List (Option Outcome)
+outcomes_told [] = []
+outcomes_told (Open job m ∷ rows) = None ∷ outcomes_told rows
+outcomes_told (Done job r ∷ rows) = Some (outcome_told job r) ∷ outcomes_told rows
+
+abbrev pub table_told : State → List (Option Outcome)
+table_told s = outcomes_told s.rows ++ replicate (length s.rest) None
+
+abbrev pub answer_of : Settling → Files → Answer
+answer_of s files = record { result = s.answered.result; buf = s.buf; files = files; marks = s.answered.marks }
+
+abbrev pub place_between : List code.Row → code.Row → List code.Row → Place
+place_between before row after = record { before = rows_in before; job = asked row.job; marked = row.marked; after = rows_in after }
+
+abbrev pub state_in : Replayed → State
+state_in replayed = record { files = replayed.files; rows = rows_in replayed.rows.items; rest = all_asked replayed.rest.items }
+
+-- the state that is left where the event took place, and none where it could not
+abbrev pub state_if : Bool → Replayed → Option State
+state_if went replayed = cond went (Some (state_in replayed)) None
+
+-- the lengths of all buffers are results
+pub record AreCounted (replayed : Replayed) : Type 0 where
+  pub rows : HasCounts replayed.rows.items
+  pub rest : All HasCount replayed.rest.items

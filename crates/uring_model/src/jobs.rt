@@ -1,0 +1,62 @@
+//! Jobs and what comes of them.
+
+use uring_entry::{Buf, Event};
+
+/// Whether the next job hangs on this one. A soft link is cut where this job fails, a hard one
+/// is not.
+#[derive(Clone, Copy, PartialEq, Eq, Debug)]
+pub enum Link {
+    Free,
+    Soft,
+    Hard,
+}
+
+/// What a job does. Files go by number, offsets and lengths count bytes, and a cancel names a
+/// job by its place in the list.
+#[derive(Drop)]
+pub enum JobKind {
+    Nop,
+    Read { file: u32, offset: u64, buf: Buf },
+    Write { file: u32, offset: u64, buf: Buf },
+    Fsync { file: u32 },
+    Ftruncate { file: u32, len: u64 },
+    Cancel { job: u64 },
+}
+
+/// A job. A drained one settles when all before it have, and before all behind it.
+#[derive(Drop)]
+pub struct Job {
+    pub kind: JobKind,
+    pub drain: bool,
+    pub link: Link,
+}
+
+/// What came of a job: its result, and the buffer of a read or write.
+#[derive(Drop)]
+pub struct Outcome {
+    pub result: i32,
+    pub buf: Option<Buf>,
+}
+
+/// What came of a list of jobs: an outcome each, in their order, and the journal of the run.
+#[derive(Drop)]
+pub struct Report {
+    pub outcomes: Vec<Outcome>,
+    pub journal: Vec<Event>,
+}
+
+/// Why a run of jobs has no report.
+#[derive(Clone, Copy, PartialEq, Eq, Debug)]
+pub enum RunFault {
+    /// The ring sizes aren't valid.
+    BadSize,
+    /// This is the first job that isn't valid.
+    BadJob(u64),
+    /// The partner posted what this number wasn't due.
+    Stranger(u64),
+    /// Too many turns passed without a final post.
+    Stalled,
+    /// The partner failed, which its count of faults shows.
+    PartnerFault,
+    NoMemory,
+}

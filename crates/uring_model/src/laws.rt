@@ -1,0 +1,61 @@
+//! Laws of the definitions, each the contract of a function that does nothing.
+
+ghost use Rattle.uring_model.specs.Explained.{MovesAreExplained, CallsAreExplained, IdlePartnersAreExplained};
+ghost use Rattle.uring_model.specs.Progress.{LowestMaySettle, FrontIsReady, TurnsAreMoves, TurnsPost, PostsFitRoom, PostingTurns, PostingTurnsJoin, NoneIsLost, TurnsAreFew};
+ghost use Rattle.uring_model.specs.Ends.{SetWhereWhole, WholeWhereSet, WholeByCount, WholeAtEnd, IdleWhereWhole};
+ghost use Rattle.uring_model.specs.Honest.{NoPostIsStrange};
+ghost use Rattle.uring_model.specs.Words.{MayInWords, SeveredInWords, ReadyInWords, PlaceInWords, CancelInWords, MarkInWords};
+
+/// What an idle partner does over entries that ask what the jobs ask makes a journal that
+/// replays, and is chosen by its choices.
+pub fn partner_replays()
+    ensures moves { MovesAreExplained }
+    ensures calls { CallsAreExplained }
+    ensures from_idle { IdlePartnersAreExplained }
+{}
+
+/// The lowest open job may always settle, and the entry in front is always ready.
+pub fn lowest_may_settle()
+    ensures job { LowestMaySettle }
+    ensures entry { FrontIsReady }
+{}
+
+/// The moves of a turn lead on from any state; it posts where it can, within its room.
+pub fn turns_are_moves()
+    ensures moves { TurnsAreMoves }
+    ensures posts { TurnsPost }
+    ensures room { PostsFitRoom }
+{}
+
+/// Each entry taken is posted or pending, so there are no more turns that post than takes.
+pub fn turns_are_few()
+    ensures kept { NoneIsLost }
+    ensures posts { PostingTurns }
+    ensures joins { PostingTurnsJoin }
+    ensures few { TurnsAreFew }
+{}
+
+/// A replay has every outcome exactly where it is whole. It is whole where all entries were
+/// taken and none is pending, and the partner is idle where it is.
+pub fn whole_at_the_end()
+    ensures set { SetWhereWhole }
+    ensures whole { WholeWhereSet }
+    ensures counted { WholeByCount }
+    ensures settled { WholeAtEnd }
+    ensures idle { IdleWhereWhole }
+{}
+
+/// An idle partner posts only jobs that were started, each once, with its own loan.
+pub fn no_stranger()
+    ensures { NoPostIsStrange }
+{}
+
+/// What the recursions on rows say of the jobs.
+pub fn rows_in_words()
+    ensures may { MayInWords }
+    ensures severed { SeveredInWords }
+    ensures ready { ReadyInWords }
+    ensures place { PlaceInWords }
+    ensures cancel { CancelInWords }
+    ensures mark { MarkInWords }
+{}

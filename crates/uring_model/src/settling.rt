@@ -1,0 +1,92 @@
+//! What the settling of a job answers.
+
+ghost use Rattle.std.specs.Prelude.{◌≡◌, ◌+◌, ◌||◌, ◌^◌, ◌<◌, length, IfOk};
+ghost use Rattle.uring_model.specs.Asked.{op_in, PartFits, FindsAs};
+ghost use Rattle.uring_model.specs.Jobs.{op_asked, buf_lent};
+ghost use Rattle.uring_model.specs.Replay.{settle, can_mark};
+ghost use Rattle.uring_model.specs.Rows.{rows_in, answer_of, place_between, HasCount};
+
+use crate::files::Files;
+use crate::jobs::JobKind;
+use crate::machine::{Answered, perform};
+use crate::request::Asked;
+use crate::rows::{Row, can_mark, is_severed};
+use std::alloc::{AllocError, Global};
+use uring_entry::Buf;
+
+/// What a settling answers, and what it leaves in the job's buffer.
+#[derive(Drop)]
+pub struct Settling {
+    pub answered: Answered,
+    pub buf: Buf,
+}
+
+/// Settles the job of this row, which stands between the rows before and after it.
+pub fn settle(
+    alloc: Global,
+    files: &mut Files,
+    before: &[Row],
+    row: &Row,
+    after: &[Row],
+) -> Result<Settling, AllocError>
+    requires { HasCount row.now.job }
+    ensures { IfOk result (λ s. answer_of s files.new ≡ settle files.old (place_between before.now row.now after.now)) }
+{
+    let mut buf = lent(alloc, &row.job.kind)?;
+    if row.marked || is_severed(before) {
+        return Ok(Settling {
+            answered: Answered::plain(-125),
+            buf,
+        });
+    }
+    let asked = asked_by(&row.job.kind);
+    let can_cancel = finds(asked, before, after);
+    let answered = perform(alloc, files, asked, can_cancel, buf.as_mut_slice())?;
+    Ok(Settling { answered, buf })
+}
+
+/// What a job of this kind asks.
+fn asked_by(kind: &JobKind) -> Asked
+    ensures op { op_in result ≡ op_asked kind.now }
+    ensures fits { length (buf_lent kind.now) < 2 ^ 31 → PartFits result (buf_lent kind.now) }
+{
+    match kind {
+        JobKind::Nop => Asked::Nop,
+        JobKind::Read { file, offset, .. } => Asked::Read {
+            file: *file,
+            offset: *offset,
+        },
+        JobKind::Write { file, offset, .. } => Asked::Write {
+            file: *file,
+            offset: *offset,
+        },
+        JobKind::Fsync { file } => Asked::Fsync { file: *file },
+        JobKind::Ftruncate { file, len } => Asked::Ftruncate {
+            file: *file,
+            len: *len,
+        },
+        JobKind::Cancel { job } => Asked::Cancel { number: *job },
+    }
+}
+
+/// A copy of the buffer that a job lends, which is empty where it lends none.
+fn lent(alloc: Global, kind: &JobKind) -> Result<Buf, AllocError>
+    ensures { IfOk result (λ buf. buf ≡ buf_lent kind.now) }
+{
+    match kind {
+        JobKind::Read { buf, .. } | JobKind::Write { buf, .. } => buf.try_clone(alloc),
+        _ => Ok(Buf::new(alloc)),
+    }
+}
+
+/// Whether a cancel finds its job among the rows before and after it.
+fn finds(asked: Asked, before: &[Row], after: &[Row]) -> bool
+    ensures { FindsAs (λ t. can_mark t 0 (rows_in before.now) || can_mark t (length (rows_in before.now) + 1) (rows_in after.now)) result asked }
+{
+    match asked {
+        Asked::Cancel { number } => {
+            can_mark(number, 0, before) || can_mark(number, before.len() + 1, after)
+        }
+        _ => false,
+    }
+}
