@@ -1,0 +1,34 @@
+-- What a call of a source or a sink in memory does.
+use Rattle.std.specs.Prelude.{ℕ, ◌+◌, List, [], ◌++◌, take, drop, Result, Ok, Err, Contains}
+use Rattle.uring_streams.specs.Bytes.{next_count}
+use Rattle.uring_streams.specs.States.{SourceState, SinkState}
+
+-- a source that has given nothing yet
+abbrev pub fresh_source : List ℕ → List ℕ → SourceState
+fresh_source bytes fails = record { left = bytes; taken = 0; fails = fails; calls = 0; faults = 0 }
+
+-- a sink that has taken nothing yet
+abbrev pub fresh_sink : ℕ → List ℕ → SinkState
+fresh_sink piece fails = record { written = []; piece = piece; fails = fails; calls = 0; faults = 0 }
+
+-- the next call is listed among those that fail
+abbrev pub SourceFailsNext : SourceState → Type 0
+SourceFailsNext s = Contains s.fails (next_count s.calls)
+
+abbrev pub SinkFailsNext : SinkState → Type 0
+SinkFailsNext s = Contains s.fails (next_count s.calls)
+
+-- a read of n bytes moves past them; one that fails is counted, and does nothing else
+abbrev pub source_after : {E : Type 0} → SourceState → Result ℕ E → SourceState
+source_after s (Ok n) = record s { left = drop n s.left; taken = s.taken + n; calls = next_count s.calls }
+source_after s (Err _) = record s { calls = next_count s.calls; faults = next_count s.faults }
+
+-- a write of n bytes appends the first n; one that fails is counted, and does nothing else
+abbrev pub sink_after : {E : Type 0} → SinkState → List ℕ → Result ℕ E → SinkState
+sink_after s bytes (Ok n) = record s { written = s.written ++ take n bytes; calls = next_count s.calls }
+sink_after s bytes (Err _) = record s { calls = next_count s.calls; faults = next_count s.faults }
+
+-- a read of n bytes writes the next n over the front of its room; one that fails writes nothing
+abbrev pub room_after : {E : Type 0} → SourceState → List ℕ → Result ℕ E → List ℕ
+room_after s room (Ok n) = take n s.left ++ drop n room
+room_after s room (Err _) = room
