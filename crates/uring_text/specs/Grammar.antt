@@ -1,0 +1,62 @@
+-- A script by what its lines say, apart from any reading.
+use Rattle.std.specs.Prelude.{ℕ, ◌<◌, ◌≤◌, ◌≡◌, ◌⊎◌, List, [], ◌∷◌, length, replicate, sum_by, Bool, true, false, Ok, codes, decimal}
+use Rattle.hex.specs.Hex.{decode_of}
+use Rattle.uring_model.specs.declared.jobs.JobKind.{JobKind}
+use Rattle.uring_model.specs.declared.jobs.JobKind.TheVariants.{Nop, Read, Write, Fsync, Ftruncate, Cancel}
+use Rattle.uring_model.specs.declared.jobs.Link.{Link}
+use Rattle.uring_model.specs.declared.jobs.Link.TheVariants.{Free}
+use Rattle.uring_text.specs.declared.script.Line.{Line}
+use Rattle.uring_text.specs.declared.script.Line.TheVariants as line
+use Rattle.uring_text.specs.Limits.{number_limit, offset_limit, len_limit, most_files, most_jobs, most_buffered}
+use Rattle.uring_text.specs.Lines.{fields_of}
+use Rattle.uring_text.specs.Script.{Told, files_of, choices_of, jobs_of, buffer_len, numbers_differ}
+
+-- pairs of hex digits of either case, or a dash for no bytes
+abbrev pub SpellsBytes : List ℕ → List ℕ → Type 0
+SpellsBytes text bytes = ((text ≡ codes "-") × (bytes ≡ [])) ⊎ ((0 < length text) × (decode_of text ≡ Ok bytes))
+
+-- the fields of a kind of job, with these marks after them. The last three kinds have no line.
+abbrev pub KindSaid : JobKind → List (List ℕ) → List (List ℕ) → Type 0
+KindSaid Nop fields end = fields ≡ codes "nop" ∷ end
+KindSaid (Read n at buf) fields end = (fields ≡ codes "read" ∷ decimal n ∷ decimal at ∷ decimal (length buf) ∷ end) × (n < number_limit) × (at < offset_limit) × (length buf < len_limit) × (buf ≡ replicate (length buf) 0)
+KindSaid (Write n at buf) fields end = (hex : List ℕ) × (fields ≡ codes "write" ∷ decimal n ∷ decimal at ∷ hex ∷ end) × (n < number_limit) × (at < offset_limit) × SpellsBytes hex buf
+KindSaid (Fsync n) fields end = ⊥
+KindSaid (Ftruncate n len) fields end = ⊥
+KindSaid (Cancel job) fields end = ⊥
+
+-- the marks at the end of a job line: there is none, so a job is neither drained nor linked
+abbrev pub MarksSaid : Bool → Link → List (List ℕ) → Type 0
+MarksSaid drain link end = (end ≡ []) × (drain ≡ false) × (link ≡ Free)
+
+-- the fields of a line that says something. A choice has no line.
+abbrev pub FieldsSay : List (List ℕ) → Line → Type 0
+FieldsSay fields line.Blank = ⊥
+FieldsSay fields (line.File seed) = (hex : List ℕ) × (fields ≡ codes "file" ∷ decimal seed.number ∷ hex ∷ []) × (seed.number < number_limit) × SpellsBytes hex seed.bytes
+FieldsSay fields (line.Choose c) = ⊥
+FieldsSay fields (line.Job job) = (end : List (List ℕ)) × KindSaid job.kind fields end × MarksSaid job.drain job.link end
+
+-- an empty line and a comment (35 is `#`) say nothing to do
+abbrev pub Says : List ℕ → Line → Type 0
+Says [] said = said ≡ line.Blank
+Says (b ∷ more) line.Blank = b ≡ 35
+Says (b ∷ more) (line.File seed) = FieldsSay (fields_of (b ∷ more)) (line.File seed)
+Says (b ∷ more) (line.Choose c) = FieldsSay (fields_of (b ∷ more)) (line.Choose c)
+Says (b ∷ more) (line.Job job) = FieldsSay (fields_of (b ∷ more)) (line.Job job)
+
+abbrev pub EachSays : List (List ℕ) → List Line → Type 0
+EachSays [] [] = Unit {0}
+EachSays [] (l ∷ said) = ⊥
+EachSays (text ∷ texts) [] = ⊥
+EachSays (text ∷ texts) (l ∷ said) = Says text l × EachSays texts said
+
+-- these lines are a script, which tells this
+pub record IsScript (lines : List (List ℕ)) (told : Told) : Type 0 where
+  pub said : List Line
+  pub each : EachSays lines said
+  pub files : told.files ≡ files_of said
+  pub choices : told.choices ≡ choices_of said
+  pub jobs : told.jobs ≡ jobs_of said
+  pub few_files : length told.files ≤ most_files
+  pub differ : numbers_differ told.files ≡ true
+  pub few_jobs : length told.jobs ≤ most_jobs
+  pub few_bytes : sum_by buffer_len told.jobs ≤ most_buffered

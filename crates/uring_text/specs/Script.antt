@@ -1,0 +1,161 @@
+-- A script: what each line says, and what all of them say together.
+use Rattle.std.specs.Prelude.{ℕ, ◌<◌, ◌≡◌, List, [], ◌∷◌, length, take, replicate, sum_by, Bool, true, false, not, Option, Some, None, IsSome, bytes_eq, Vec, codes, nat_le, ◌==◌, ◌&&◌, if◌then◌else◌}
+use Rattle.std.specs.List.{list_any}
+use Rattle.std.specs.declared.alloc.Global.{Global}
+use Rattle.uring_model.specs.declared.jobs.Job.{Job}
+use Rattle.uring_model.specs.declared.jobs.JobKind.{JobKind}
+use Rattle.uring_model.specs.declared.jobs.JobKind.TheVariants.{Nop, Read, Write}
+use Rattle.uring_model.specs.declared.jobs.Link.{Link}
+use Rattle.uring_model.specs.declared.jobs.Link.TheVariants.{Free}
+use Rattle.uring_model.specs.Jobs.{buf_lent}
+use Rattle.uring_text.specs.declared.script.Seed.{Seed}
+use Rattle.uring_text.specs.declared.script.Line.{Line}
+use Rattle.uring_text.specs.declared.script.Line.TheVariants as line
+use Rattle.uring_text.specs.declared.script.Script.{Script}
+use Rattle.uring_text.specs.declared.script.ScriptFault.{ScriptFault}
+use Rattle.uring_text.specs.declared.script.ScriptFault.TheVariants as fault
+use Rattle.uring_text.specs.Limits.{number_limit, offset_limit, len_limit, most_files, most_jobs, most_buffered}
+use Rattle.uring_text.specs.Lines.{fields_of, number_below, bytes_spelled}
+
+infixl 10 ◌>>=◌
+abbrev pub ◌>>=◌ : {A B : Type 0} → Option A → (A → Option B) → Option B
+(Some x) >>= f = f x
+None >>= f = None
+
+-- ---- one line
+
+-- `file N HEX`
+unfoldable pub file_line : List (List ℕ) → Option Line
+file_line (number ∷ hex ∷ []) = do
+  n ← number_below number_limit number
+  bytes ← bytes_spelled hex
+  Some (line.File (record { number = n; bytes = bytes }))
+file_line _ = None
+
+-- the marks at the end of a job line: drained or not, and the link. There is no mark.
+unfoldable pub marks_of : List (List ℕ) → Option (Bool × Link)
+marks_of [] = Some (false, Free)
+marks_of (_ ∷ _) = None
+
+-- what a job line says of the kind of its job, and the marks after that
+abbrev pub KindAndMarks : Type 0
+KindAndMarks = Option (JobKind × List (List ℕ))
+
+-- `read N OFFSET LEN`: a buffer of LEN zeros
+unfoldable pub read_fields : List (List ℕ) → KindAndMarks
+read_fields (file ∷ offset ∷ len ∷ marks) = do
+  n ← number_below number_limit file
+  at ← number_below offset_limit offset
+  size ← number_below len_limit len
+  Some (Read n at (replicate size 0), marks)
+read_fields _ = None
+
+-- `write N OFFSET HEX`
+unfoldable pub write_fields : List (List ℕ) → KindAndMarks
+write_fields (file ∷ offset ∷ hex ∷ marks) = do
+  n ← number_below number_limit file
+  at ← number_below offset_limit offset
+  bytes ← bytes_spelled hex
+  Some (Write n at bytes, marks)
+write_fields _ = None
+
+unfoldable pub job_fields : List ℕ → List (List ℕ) → KindAndMarks
+job_fields word fields =
+    if bytes_eq word (codes "nop") then Some (Nop, fields)
+    else if bytes_eq word (codes "read") then read_fields fields
+    else if bytes_eq word (codes "write") then write_fields fields
+    else None
+
+unfoldable pub job_line : List ℕ → List (List ℕ) → Option Line
+job_line word fields = do
+  said ← job_fields word fields
+  marks ← marks_of said.1
+  Some (line.Job (record { kind = said.0; drain = marks.0; link = marks.1 }))
+
+unfoldable pub worded_line : List (List ℕ) → Option Line
+worded_line [] = None
+worded_line (word ∷ fields) = if bytes_eq word (codes "file") then file_line fields else job_line word fields
+
+-- what a line says. An empty line and a comment (35 is `#`) say nothing to do.
+unfoldable pub line_says : List ℕ → Option Line
+line_says [] = Some line.Blank
+line_says (b ∷ more) = if b == 35 then Some line.Blank else worded_line (fields_of (b ∷ more))
+
+-- ---- all lines
+
+-- what each of the lines says, if each says something
+unfoldable pub lines_say : List (List ℕ) → Option (List Line)
+lines_say [] = Some []
+lines_say (text ∷ texts) = do
+  first ← line_says text
+  others ← lines_say texts
+  Some (first ∷ others)
+
+-- what a script tells
+pub record Told : Type 0 where
+  pub files : List Seed
+  pub choices : List ℕ
+  pub jobs : List Job
+
+abbrev pub files_of : List Line → List Seed
+files_of [] = []
+files_of (line.Blank ∷ said) = files_of said
+files_of (line.File seed ∷ said) = seed ∷ files_of said
+files_of (line.Choose _ ∷ said) = files_of said
+files_of (line.Job _ ∷ said) = files_of said
+
+abbrev pub choices_of : List Line → List ℕ
+choices_of [] = []
+choices_of (line.Blank ∷ said) = choices_of said
+choices_of (line.File _ ∷ said) = choices_of said
+choices_of (line.Choose choice ∷ said) = choice ∷ choices_of said
+choices_of (line.Job _ ∷ said) = choices_of said
+
+abbrev pub jobs_of : List Line → List Job
+jobs_of [] = []
+jobs_of (line.Blank ∷ said) = jobs_of said
+jobs_of (line.File _ ∷ said) = jobs_of said
+jobs_of (line.Choose _ ∷ said) = jobs_of said
+jobs_of (line.Job job ∷ said) = job ∷ jobs_of said
+
+-- the bytes in a job's buffer
+abbrev pub buffer_len : Job → ℕ
+buffer_len job = length (buf_lent job.kind)
+
+abbrev pub has_number : ℕ → List Seed → Bool
+has_number number files = list_any (λ (s : Seed). s.number == number) files
+
+-- no number comes twice
+abbrev pub numbers_differ : List Seed → Bool
+numbers_differ [] = true
+numbers_differ (seed ∷ seeds) = not (has_number seed.number seeds) && numbers_differ seeds
+
+abbrev pub is_within_limits : Told → Bool
+is_within_limits told =
+    nat_le (length told.files) most_files && numbers_differ told.files
+    && nat_le (length told.jobs) most_jobs && nat_le (sum_by buffer_len told.jobs) most_buffered
+
+-- what these lines tell, if they are a script
+unfoldable pub script_of : List (List ℕ) → Option Told
+script_of lines = do
+  said ← lines_say lines
+  let told : Told = record { files = files_of said; choices = choices_of said; jobs = jobs_of said } in
+      if is_within_limits told then Some told else None
+
+-- these lines are no script, and this is the least number of first lines that are none
+pub record IsFaultLine (lines : List (List ℕ)) (n : ℕ) : Type 0 where
+  pub none : script_of lines ≡ None
+  pub faulty : script_of (take n lines) ≡ None
+  pub first : (k : ℕ) → k < n → IsSome (script_of (take k lines))
+
+-- ---- what the reader answers
+
+abbrev pub told_of : Vec Seed Global → Vec ℕ Global → Vec Job Global → Told
+told_of files choices jobs = record { files = files.items; choices = choices.items; jobs = jobs.items }
+
+abbrev pub told_by : Script → Told
+told_by script = told_of script.files script.choices script.jobs
+
+abbrev pub Refuses : List (List ℕ) → ScriptFault → Type 0
+Refuses lines (fault.Line n) = IsFaultLine lines n
+Refuses lines fault.NoMemory = Unit {0}

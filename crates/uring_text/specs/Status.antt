@@ -1,0 +1,32 @@
+-- The exit status of each end of a run, and its text.
+use Rattle.std.specs.Prelude.{ℕ, List, [], ◌++◌, codes, decimal}
+use Rattle.uring_text.specs.declared.status.Status.{Status}
+use Rattle.uring_text.specs.declared.status.Status.TheVariants as ends
+
+abbrev pub code_of : Status → ℕ
+code_of ends.Done = 0
+code_of ends.Usage = 2
+code_of ends.ReadFault = 3
+code_of ends.TooLong = 4
+code_of (ends.Script line) = 5
+code_of ends.BadSize = 6
+code_of (ends.BadJob job) = 7
+code_of (ends.Stranger number) = 8
+code_of ends.Stalled = 9
+code_of ends.PartnerFault = 10
+code_of ends.WriteFault = 11
+code_of ends.NoMemory = 12
+
+abbrev pub words_of : Status → List ℕ
+words_of ends.Done = []
+words_of ends.Usage = codes "usage"
+words_of ends.ReadFault = codes "read fault"
+words_of ends.TooLong = codes "too long"
+words_of (ends.Script line) = codes "script line " ++ decimal line
+words_of ends.BadSize = codes "bad size"
+words_of (ends.BadJob job) = codes "bad job " ++ decimal job
+words_of (ends.Stranger number) = codes "stranger " ++ decimal number
+words_of ends.Stalled = codes "stalled"
+words_of ends.PartnerFault = codes "partner fault"
+words_of ends.WriteFault = codes "write fault"
+words_of ends.NoMemory = codes "no memory"

@@ -1,0 +1,22 @@
+//! Texts: scripts, reports and statuses.
+#![tactic(auto)]
+
+mod fields;
+mod laws;
+mod line;
+mod read;
+mod report;
+mod script;
+mod status;
+
+pub use laws::{
+    fields_end_at_spaces, fronts_are_scripts, lines_are_as_said, lines_end_at_feeds,
+    numbers_are_decimal, scripts_are_as_said,
+};
+pub use read::read_script;
+pub use report::report_text;
+pub use script::{Line, Script, ScriptFault, Seed};
+pub use status::{Status, status_text};
+
+#[cfg(test)]
+mod tests;

@@ -1,0 +1,85 @@
+//! Reports as text.
+
+ghost use Rattle.std.specs.Prelude.{◌≡◌, ◌++◌, IfOk, OnOk, MatchResult, string_bytes};
+ghost use Rattle.uring_model.specs.declared.jobs.RunFault.TheVariants.{NoMemory};
+ghost use Rattle.uring_text.specs.Report.{hex_text, buffer_text, outcome_line, event_line, text_of};
+
+use std::alloc::{AllocError, Global};
+use std::fmt::Write;
+use uring_entry::{Buf, Event};
+use uring_model::{Outcome, Report, RunFault};
+
+fn hex_text(alloc: Global, bytes: &[u8]) -> Result<String, AllocError>
+    ensures { IfOk result (λ text. string_bytes text ≡ hex_text bytes.now) }
+{
+    if bytes.is_empty() {
+        String::from_str(alloc, "-")
+    } else {
+        hex::encode(alloc, bytes)
+    }
+}
+
+fn buffer_text(alloc: Global, buf: &Option<Buf>) -> Result<String, AllocError>
+    ensures { IfOk result (λ text. string_bytes text ≡ buffer_text buf.now) }
+{
+    match buf {
+        None => String::from_str(alloc, "-"),
+        Some(buf) => hex_text(alloc, buf.as_slice()),
+    }
+}
+
+fn put_outcome(
+    alloc: Global,
+    out: &mut String,
+    job: usize,
+    outcome: &Outcome,
+) -> Result<(), AllocError>
+    ensures { OnOk result (string_bytes out.new ≡ string_bytes out.old ++ outcome_line job outcome.now) }
+{
+    let hex = buffer_text(alloc, &outcome.buf)?;
+    let result = outcome.result;
+    writeln!(out, "out {job} {result} {hex}")
+}
+
+fn put_event(out: &mut String, event: Event) -> Result<(), AllocError>
+    ensures { OnOk result (string_bytes out.new ≡ string_bytes out.old ++ event_line event) }
+{
+    match event {
+        Event::Turn(entries) => writeln!(out, "turn {entries}"),
+        Event::Take(job) => writeln!(out, "take {job}"),
+        Event::Post {
+            job,
+            result,
+            fin: true,
+        } => writeln!(out, "post {job} {result}"),
+        Event::Post {
+            job,
+            result,
+            fin: false,
+        } => writeln!(out, "more {job} {result}"),
+    }
+}
+
+fn lines_of_report(alloc: Global, report: &Report) -> Result<String, AllocError>
+    ensures { IfOk result (λ text. string_bytes text ≡ text_of report.now.outcomes.items report.now.journal.items) }
+{
+    let mut out = String::new(alloc);
+    for (job, outcome) in report.outcomes.iter().enumerate() {
+        put_outcome(alloc, &mut out, job, outcome)?;
+    }
+    for event in &report.journal {
+        put_event(&mut out, *event)?;
+    }
+    out.push_str("end\n")?;
+    Ok(out)
+}
+
+/// The report as text: a line for each outcome, one for each event, and `end`.
+pub fn report_text(alloc: Global, report: &Report) -> Result<Buf, RunFault>
+    ensures { MatchResult result (λ text. text ≡ text_of report.now.outcomes.items report.now.journal.items) (λ fault. fault ≡ NoMemory) }
+{
+    match lines_of_report(alloc, report) {
+        Ok(text) => Ok(Buf::from(text.into_bytes())),
+        Err(_) => Err(RunFault::NoMemory),
+    }
+}
