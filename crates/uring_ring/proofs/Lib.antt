@@ -1,0 +1,5 @@
+pub mod PositionLemmas
+pub mod Windows
+pub mod Kept
+pub mod SizeLemmas
+pub mod Grows

@@ -1,0 +1,85 @@
+-- The laws of both sides, for a pair of rings for one thread, and their proofs.
+use Rattle.std.proofs.Common.{◌≡◌, ℕ, ◌+◌, ◌%◌, ◌^◌, List, [], ◌∷◌, ◌++◌, length, map, refl, sym, ap, ◌∙◌, arith, append_assoc, append-nil, length-append}
+use Rattle.std.proofs.Math.Nat.{add-mod}
+use Rattle.uring_entry.specs.declared.events.Taken.{Taken}
+use Rattle.uring_entry.specs.declared.events.Completion.{Completion}
+use Rattle.uring_ring.specs.declared.slots.Slots.{Slots}
+use Rattle.uring_ring.specs.declared.io_uring.IoUring.{IoUring}
+use Rattle.uring_ring.specs.Lists.{Lists, HasRoom, Moves, Uses, Advances}
+use Rattle.uring_ring.specs.Positions.{Fits}
+use Rattle.uring_ring.specs.Slots.{held_of}
+use Rattle.uring_ring.specs.IoUring.{lists_of, entries_in, completions_in, RingMoves, RingUses}
+
+pub held-fits : {T : Type 0} (ring : Slots T) → Fits (held_of ring)
+unfolding held_of
+held-fits ring = ring.fits
+
+pub has_room : (ring : IoUring) → HasRoom (lists_of ring)
+has_room ring =
+    let e = held-fits ring.entries in
+    let c = held-fits ring.completions in
+    record {
+      entries = omega (arith, e.items);
+      completions = omega (arith, c.items);
+      small = ring.small;
+      completions_small = c.capacity;
+    }
+
+pub Moves-none : (kept : Completion → Completion) (l : Lists) → Moves kept l [] [] l
+Moves-none kept l = record { taken = refl; posted = sym (append-nil l.completions); pushed = refl; capacity = refl; completion_capacity = refl; held = refl }
+
+map-both : (f : Completion → Completion) (cs ds : List Completion) → map f (cs ++ ds) ≡ map f cs ++ map f ds
+map-both f [] ds = refl
+map-both f (c ∷ cs) ds = ap (λ l. f c ∷ l) (map-both f cs ds)
+
+pub Moves-then : (kept : Completion → Completion) (a b c : Lists) (ts us : List Taken) (cs ds : List Completion) → Moves kept a ts cs b → Moves kept b us ds c → Moves kept a (ts ++ us) (cs ++ ds) c
+Moves-then kept a b c ts us cs ds p q = record {
+  taken = p.taken ∙ ap (λ l. ts ++ l) q.taken ∙ sym (append_assoc ts us c.published);
+  posted = q.posted ∙ ap (λ l. l ++ map kept ds) p.posted ∙ append_assoc a.completions (map kept cs) (map kept ds) ∙ ap (λ l. a.completions ++ l) (sym (map-both kept cs ds));
+  pushed = q.pushed ∙ p.pushed;
+  capacity = q.capacity ∙ p.capacity;
+  completion_capacity = q.completion_capacity ∙ p.completion_capacity;
+  held = q.held ∙ p.held;
+}
+
+pub Uses-none : (l : Lists) → Uses l [] [] l
+Uses-none l = record { entries = sym (append-nil (l.published ++ l.pushed)); reaped = refl; capacity = refl; completion_capacity = refl }
+
+pub Uses-then : (a b c : Lists) (ts us : List Taken) (cs ds : List Completion) → Uses a ts cs b → Uses b us ds c → Uses a (ts ++ us) (cs ++ ds) c
+Uses-then a b c ts us cs ds p q = record {
+  entries = q.entries ∙ ap (λ l. l ++ us) p.entries ∙ append_assoc (a.published ++ a.pushed) ts us;
+  reaped = p.reaped ∙ ap (λ l. cs ++ l) q.reaped ∙ sym (append_assoc cs ds c.completions);
+  capacity = q.capacity ∙ p.capacity;
+  completion_capacity = q.completion_capacity ∙ p.completion_capacity;
+}
+
+pub Advances-none : (p : ℕ) → Advances p 0 p
+Advances-none p = ap (λ (x : ℕ). x % 2 ^ 32) (let e : p ≡ p + 0 = omega arith in e)
+
+pub Advances-then : {T : Type 0} (p q r : ℕ) (ts us : List T) → Advances p (length ts) q → Advances q (length us) r → Advances p (length (ts ++ us)) r
+Advances-then p q r ts us f g =
+    let sum : p + length ts + length us ≡ p + length (ts ++ us) = omega (arith, length-append ts us) in
+    g ∙ add-mod q (length us) (2 ^ 32) ∙ ap (λ (x : ℕ). (x + length us % 2 ^ 32) % 2 ^ 32) f ∙ sym (add-mod (p + length ts) (length us) (2 ^ 32)) ∙ ap (λ (x : ℕ). x % 2 ^ 32) sum
+
+pub RingMoves-none : (a : IoUring) → RingMoves a [] [] a
+RingMoves-none a = record { lists = Moves-none _ (lists_of a); offer_place = refl; reap_place = refl; parameters = refl }
+
+pub RingMoves-then : (a b c : IoUring) (ts us : List Taken) (cs ds : List Completion) → RingMoves a ts cs b → RingMoves b us ds c → RingMoves a (ts ++ us) (cs ++ ds) c
+RingMoves-then a b c ts us cs ds p q = record {
+  lists = Moves-then _ (lists_of a) (lists_of b) (lists_of c) ts us cs ds p.lists q.lists;
+  offer_place = q.offer_place ∙ p.offer_place;
+  reap_place = q.reap_place ∙ p.reap_place;
+  parameters = q.parameters ∙ p.parameters;
+}
+
+pub RingUses-none : (a : IoUring) → RingUses a [] [] a
+RingUses-none a = record { lists = Uses-none (lists_of a); offer_place = Advances-none _; reap_place = Advances-none _; parameters = refl; words = refl }
+
+pub RingUses-then : (a b c : IoUring) (ts us : List Taken) (cs ds : List Completion) → RingUses a ts cs b → RingUses b us ds c → RingUses a (ts ++ us) (cs ++ ds) c
+RingUses-then a b c ts us cs ds p q = record {
+  lists = Uses-then (lists_of a) (lists_of b) (lists_of c) ts us cs ds p.lists q.lists;
+  offer_place = Advances-then (entries_in a).put_place (entries_in b).put_place (entries_in c).put_place ts us p.offer_place q.offer_place;
+  reap_place = Advances-then (completions_in a).take_place (completions_in b).take_place (completions_in c).take_place cs ds p.reap_place q.reap_place;
+  parameters = q.parameters ∙ p.parameters;
+  words = q.words ∙ p.words;
+}

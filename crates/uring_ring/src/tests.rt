@@ -1,0 +1,208 @@
+use crate::{IoUring, PartnerSide, SetupError, UserEnds};
+use std::alloc::{AllocError, Global};
+use std::process::Abort;
+use std::test::Fail;
+use uring_entry::squeue::Entry;
+use uring_entry::{Buf, Completion, Loan, Taken, first_nop};
+
+/// The entry and the loan of a job.
+fn job(number: u64) -> Entry {
+    first_nop().user_data(number)
+}
+
+fn loan_of(alloc: Global, number: u64) -> Result<Option<Loan>, AllocError> {
+    Ok(Some(Loan {
+        number,
+        from: 1,
+        buf: Buf::from_slice(alloc, b"abc")?,
+    }))
+}
+
+/// Asserts that the job came with its loan, and that the entry is a small one.
+fn assert_taken(rt: &impl Abort, taken: Option<Taken>, number: u64) {
+    match taken {
+        Some(taken) => {
+            assert_eq!(rt; taken.entry.get_user_data(), number);
+            assert_eq!(rt; taken.big, [0; 64]);
+            assert_loan(rt, &taken.loan, number);
+        }
+        None => assert!(rt; false, "nothing to take"),
+    }
+}
+
+fn assert_loan(rt: &impl Abort, loan: &Option<Loan>, number: u64) {
+    match loan {
+        Some(loan) => {
+            assert_eq!(rt; loan.number, number);
+            assert_eq!(rt; loan.buf.as_slice(), b"abc".as_slice());
+        }
+        None => assert!(rt; false, "no loan"),
+    }
+}
+
+/// Asserts that an offer of the job is refused and gives the loan back.
+fn assert_refused(rt: &impl Abort, offered: Result<(), (Entry, Option<Loan>)>, number: u64) {
+    match offered {
+        Ok(()) => assert!(rt; false, "not refused"),
+        Err((entry, loan)) => {
+            assert_eq!(rt; entry.get_user_data(), number);
+            assert_loan(rt, &loan, number);
+        }
+    }
+}
+
+fn assert_reaped(rt: &impl Abort, reaped: Option<Completion>, number: u64) {
+    match reaped {
+        Some(completion) => {
+            assert_eq!(rt; completion.user_data, number);
+            assert_eq!(rt; completion.result, -5);
+            assert_eq!(rt; completion.flags, 7);
+            assert_eq!(rt; completion.big, [0; 2]);
+            assert_loan(rt, &completion.loan, number);
+        }
+        None => assert!(rt; false, "nothing to reap"),
+    }
+}
+
+/// Each call that can find no memory answers otherwise where there is memory.
+#[test]
+fn each_call(rt: HostRuntime) -> Result<(), Fail> {
+    let alloc = rt.alloc();
+    assert_eq!(rt; IoUring::new(alloc, 4)?.capacity(), 4);
+    assert_eq!(rt; IoUring::with_start(alloc, 4, 9)?.places(), (9, 9));
+    let mut builder = IoUring::builder();
+    let ring = builder.setup_cqsize(16).start(7).build(alloc, 4)?;
+    assert_eq!(rt; ring.completion_capacity(), 16);
+    assert_eq!(rt; ring.places(), (7, 7));
+    assert_eq!(rt; IoUring::new(alloc, 0).err(), Some(SetupError::Invalid));
+    Ok(())
+}
+
+/// Two entries fit, and the positions wrap between them.
+#[test]
+fn entries_wrap_round(rt: HostRuntime) -> Result<(), Fail> {
+    let alloc = rt.alloc();
+    let mut ring = IoUring::with_start(alloc, 2, 4294967295)?;
+    assert!(rt; ring.offer(job(1), loan_of(alloc, 1)?).is_ok());
+    assert!(rt; ring.offer(job(2), loan_of(alloc, 2)?).is_ok());
+    assert_refused(&rt, ring.offer(job(3), loan_of(alloc, 3)?), 3);
+    assert_eq!(rt; ring.places(), (1, 4294967295));
+    assert_eq!(rt; ring.published(), 0);
+    assert!(rt; ring.take().is_none());
+    ring.publish();
+    assert_eq!(rt; ring.published(), 2);
+    assert_taken(&rt, ring.take(), 1);
+    assert_refused(&rt, ring.offer(job(3), loan_of(alloc, 3)?), 3);
+    ring.refresh();
+    assert_eq!(rt; ring.free(), 1);
+    assert!(rt; ring.offer(job(3), loan_of(alloc, 3)?).is_ok());
+    assert_refused(&rt, ring.offer(job(4), loan_of(alloc, 4)?), 4);
+    assert_taken(&rt, ring.take(), 2);
+    assert!(rt; ring.take().is_none());
+    Ok(())
+}
+
+fn posted(alloc: Global, number: u64) -> Result<Completion, AllocError> {
+    Ok(Completion {
+        user_data: number,
+        result: -5,
+        flags: 7,
+        big: [1, 2],
+        loan: loan_of(alloc, number)?,
+    })
+}
+
+/// Two completions fit. They come back in order with their loans, and without the two further
+/// numbers; the slots of what was reaped are free once they are published.
+#[test]
+fn completions_wrap_round(rt: HostRuntime) -> Result<(), Fail> {
+    let alloc = rt.alloc();
+    let mut builder = IoUring::builder();
+    let mut ring = builder.setup_cqsize(2).start(4294967295).build(alloc, 1)?;
+    assert_eq!(rt; ring.room(), 2);
+    assert!(rt; ring.post(posted(alloc, 1)?).is_ok());
+    assert!(rt; ring.post(posted(alloc, 2)?).is_ok());
+    match ring.post(posted(alloc, 3)?) {
+        Ok(()) => assert!(rt; false, "not refused"),
+        Err(completion) => {
+            assert_eq!(rt; completion.big, [1, 2]);
+            assert_loan(&rt, &completion.loan, 3);
+        }
+    }
+    assert!(rt; ring.reap().is_none());
+    ring.refresh();
+    assert_reaped(&rt, ring.reap(), 1);
+    assert_eq!(rt; ring.room(), 0);
+    ring.publish();
+    assert_eq!(rt; ring.room(), 1);
+    assert!(rt; ring.post(posted(alloc, 3)?).is_ok());
+    assert_reaped(&rt, ring.reap(), 2);
+    assert!(rt; ring.reap().is_none());
+    ring.refresh();
+    assert_reaped(&rt, ring.reap(), 3);
+    assert_eq!(rt; ring.places(), (4294967295, 2));
+    Ok(())
+}
+
+/// The sizes of the ring that would be made.
+fn sizes(entries: u32, cqsize: Option<u32>) -> Result<(u32, u32), SetupError> {
+    let mut builder = IoUring::builder();
+    if let Some(count) = cqsize {
+        builder.setup_cqsize(count);
+    }
+    let parameters = builder.parameters(entries)?;
+    Ok((parameters.sq_entries(), parameters.cq_entries()))
+}
+
+#[test]
+fn size_rule(rt: HostRuntime) {
+    assert_eq!(rt; sizes(1, None), Ok((1, 2)));
+    assert_eq!(rt; sizes(3, None), Ok((4, 8)));
+    assert_eq!(rt; sizes(32768, None), Ok((32768, 65536)));
+    assert_eq!(rt; sizes(0, None), Err(SetupError::Invalid));
+    assert_eq!(rt; sizes(32769, None), Err(SetupError::Invalid));
+    assert_eq!(rt; sizes(4294967295, None), Err(SetupError::Invalid));
+    assert_eq!(rt; sizes(8, Some(5)), Ok((8, 8)));
+    assert_eq!(rt; sizes(3, Some(3)), Ok((4, 4)));
+    assert_eq!(rt; sizes(8, Some(65536)), Ok((8, 65536)));
+    assert_eq!(rt; sizes(8, Some(4)), Err(SetupError::Invalid));
+    assert_eq!(rt; sizes(8, Some(0)), Err(SetupError::Invalid));
+    assert_eq!(rt; sizes(8, Some(65537)), Err(SetupError::Invalid));
+    assert_eq!(rt; sizes(32769, Some(65536)), Err(SetupError::Invalid));
+}
+
+#[test]
+fn bits_of_parameters(rt: HostRuntime) -> Result<(), Fail> {
+    let alloc = rt.alloc();
+    let ring = IoUring::new(alloc, 3)?;
+    let parameters = ring.params();
+    assert!(rt; !parameters.is_setup_sqpoll());
+    assert!(rt; !parameters.is_setup_iopoll());
+    assert!(rt; parameters.is_feature_nodrop());
+    assert_eq!(rt; parameters.sq_entries(), 4);
+    assert_eq!(rt; parameters.cq_entries(), 8);
+    Ok(())
+}
+
+/// The partner's flags are kept.
+#[test]
+fn flags_of_the_partner(rt: HostRuntime) -> Result<(), Fail> {
+    let alloc = rt.alloc();
+    let mut ring = IoUring::new(alloc, 1)?;
+    assert_eq!(rt; ring.sq_flags(), 0);
+    ring.set_sq_flags(5);
+    ring.add_dropped();
+    ring.add_overflow();
+    assert_eq!(rt; ring.sq_flags(), 5);
+    Ok(())
+}
+
+#[test]
+fn texts_of_setup_errors(rt: HostRuntime) -> Result<(), Fail> {
+    let alloc = rt.alloc();
+    let invalid = format!(in alloc; "{}", SetupError::Invalid)?;
+    assert_eq!(rt; invalid.as_str(), "invalid ring size");
+    let no_memory = format!(in alloc; "{}", SetupError::NoMemory)?;
+    assert_eq!(rt; no_memory.as_str(), "no memory");
+    Ok(())
+}
