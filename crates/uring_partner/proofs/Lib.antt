@@ -1,0 +1,7 @@
+pub mod Ready
+pub mod Marks
+pub mod Among
+pub mod Settled
+pub mod Turns
+pub mod Lowered
+pub mod Logged

@@ -1,0 +1,6 @@
+pub mod Calls
+pub mod Marks
+pub mod Settling
+pub mod Told
+pub mod Parts
+pub mod Logs

@@ -1,0 +1,20 @@
+-- What the parts of a turn do to a log, and what a hostile partner tells.
+use Rattle.std.specs.Prelude.{◌≡◌, List, ◌++◌, Option, Some, None}
+use Rattle.uring_entry.specs.declared.events.Taken.{Taken}
+use Rattle.uring_entry.specs.declared.events.Completion.{Completion}
+use Rattle.uring_entry.specs.declared.events.LogEvent.{LogEvent}
+use Rattle.uring_model.specs.Moves.{Move, took, posted, log_of}
+use Rattle.uring_model.specs.Partner.{PartnerState}
+use Rattle.uring_partner.specs.declared.hostile.HostilePartner.{HostilePartner}
+
+-- with these moves the side and the log went on
+pub record LogsBy {Q : Type 0} (moved : Q → List Taken → List Completion → Q → Type 0) (before after : List LogEvent) (from to : Q) (ms : List Move) : Type 0 where
+  pub sides : moved from (took ms) (posted ms) to
+  pub grown : after ≡ before ++ log_of ms
+
+abbrev pub hostile_log : HostilePartner → Option (List LogEvent)
+hostile_log p = Some p.log.items
+
+-- it tells no files
+abbrev pub no_state : HostilePartner → Option PartnerState
+no_state p = None

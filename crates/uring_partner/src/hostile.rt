@@ -1,0 +1,290 @@
+//! A partner that posts what its script says.
+
+ghost use Rattle.std.specs.Prelude.{◌≡◌, [], IfOk};
+
+use crate::call::{EnterCall, PartnerError};
+use crate::logging::{event_at, push_known};
+use crate::traits::{Counts, Partner, Seedable};
+use std::alloc::{AllocError, Global};
+use uring_entry::cqueue::more;
+use uring_entry::{Buf, Completion, Event, Loan, LogEvent};
+use uring_ring::PartnerSide;
+
+#[cfg(test)]
+mod tests;
+
+/// Which loan a scripted post carries.
+#[derive(Clone, Copy, PartialEq, Eq, Debug)]
+pub enum LoanPlan {
+    Nothing,
+    /// The loan of the post's number, where the partner holds one.
+    Lent,
+    /// A loan of this number, from 0 and without bytes.
+    Foreign(u64),
+}
+
+/// One item of a hostile partner's script.
+#[derive(Clone, Copy, PartialEq, Eq, Debug)]
+pub enum Scripted {
+    /// Ends the posts of one turn.
+    Turn,
+    Post {
+        user_data: u64,
+        result: i32,
+        flags: u32,
+        loan: LoanPlan,
+    },
+}
+
+/// A partner that takes as the memory partner does, and in each turn posts what its script says
+/// up to the next `Turn`, which the turn uses up. Where the side has no room it stops, and the
+/// rest stays for the next turn. It has no files.
+#[derive(Drop)]
+pub struct HostilePartner {
+    script: Vec<Scripted>,
+    // How many items of the script are used up.
+    used: usize,
+    held: Vec<Loan>,
+    log: Vec<LogEvent>,
+}
+
+impl HostilePartner {
+    ghost use Rattle.std.specs.Prelude.{◌≡◌, ◌+◌, ◌<◌, ◌≤◌, [], ◌∷◌, ℕ, List, length, map, min, Some, IfOk, IfSome, OnOk, OnErr, is_ok, vec_len};
+    ghost use Rattle.uring_entry.specs.declared.events.Taken.{Taken};
+    ghost use Rattle.uring_entry.specs.declared.events.Completion.{Completion};
+    ghost use Rattle.uring_model.specs.Moves.{Move, Turned, Took, Posted, took};
+    ghost use Rattle.uring_partner.specs.Logs.{LogsBy, hostile_log, no_state};
+    ghost use Rattle.uring_partner.specs.Calls.{Enters, IsCall};
+
+    /// A partner with this script, which holds nothing and has no events.
+    pub fn new(alloc: Global, script: Vec<Scripted>) -> HostilePartner
+        ensures { hostile_log result ≡ Some [] }
+    {
+        HostilePartner {
+            script,
+            used: 0,
+            held: Vec::new(alloc),
+            log: Vec::new(alloc),
+        }
+    }
+
+    fn begin_turn<Q: PartnerSide>(
+        &mut self,
+        side: &mut Q,
+        to_submit: u32,
+    ) -> Result<u32, AllocError>
+        ensures ok { IfOk result (λ p. LogsBy Q.moved self.old.log.items self.new.log.items side.old side.new (Turned p ∷ [])) }
+        ensures fits { IfOk result (λ p. (p ≤ to_submit) × (p ≤ Q.ready side.new)) }
+        ensures told { IfOk result (λ p. IfSome (Q.lists side.old) (λ l. p ≡ min to_submit (length l.published))) }
+        ensures err { OnErr result (LogsBy Q.moved self.old.log.items self.new.log.items side.old side.new []) }
+    {
+        let turn = side.published().min(to_submit);
+        self.log.try_reserve(1)?;
+        push_known(&mut self.log, LogEvent::Turn(turn));
+        Ok(turn)
+    }
+
+    fn take_one<Q: PartnerSide>(&mut self, side: &mut Q) -> Result<(), AllocError>
+        requires { 0 < Q.ready side.old }
+        ensures ok { OnOk result ((t : Taken) × LogsBy Q.moved self.old.log.items self.new.log.items side.old side.new (Took t ∷ [])) }
+        ensures ready { OnOk result (Q.ready side.old ≡ Q.ready side.new + 1) }
+        ensures err { OnErr result (LogsBy Q.moved self.old.log.items self.new.log.items side.old side.new []) }
+    {
+        self.log.try_reserve(1)?;
+        self.held.try_reserve(1)?;
+        let Some(taken) = side.take() else {
+            unreachable!();
+        };
+        let job = taken.entry.user_data;
+        let entry = taken.entry;
+        push_known(&mut self.log, LogEvent::Take { job, entry });
+        if let Some(loan) = taken.loan {
+            push_known(&mut self.held, loan);
+        }
+        Ok(())
+    }
+
+    fn take_all<Q: PartnerSide>(&mut self, side: &mut Q, count: u32) -> Result<(), AllocError>
+        requires { count ≤ Q.ready side.old }
+        ensures moves { (ts : List Taken) × LogsBy Q.moved self.old.log.items self.new.log.items side.old side.new (map Took ts) × (length ts ≤ count) × OnOk result (length ts ≡ count) }
+    {
+        for i in 0..count {
+            self.take_one(side)?;
+        }
+        Ok(())
+    }
+
+    /// Posts what one item says, where there is room.
+    fn post_one<Q: PartnerSide>(
+        &mut self,
+        alloc: Global,
+        side: &mut Q,
+        user_data: u64,
+        outcome: i32,
+        flags: u32,
+        plan: LoanPlan,
+    ) -> Result<(), AllocError>
+        requires { 0 < Q.space side.old }
+        ensures ok { OnOk result ((c : Completion) × LogsBy Q.moved self.old.log.items self.new.log.items side.old side.new (Posted c ∷ [])) }
+        ensures err { OnErr result (LogsBy Q.moved self.old.log.items self.new.log.items side.old side.new []) }
+        ensures script { (vec_len self.new.script ≡ vec_len self.old.script) × (self.new.used ≡ self.old.used) }
+    {
+        self.log.try_reserve(1)?;
+        let (loan, copy) = planned_loan(alloc, &mut self.held, user_data, plan)?;
+        push_known(
+            &mut self.log,
+            LogEvent::Post {
+                job: user_data,
+                result: outcome,
+                fin: !more(flags),
+                loan: copy,
+            },
+        );
+        let refused = side.post(Completion {
+            user_data,
+            result: outcome,
+            flags,
+            big: [0, 0],
+            loan,
+        });
+        if let Err(_back) = refused {
+            unreachable!();
+        }
+        Ok(())
+    }
+
+    /// Posts the script's items up to its next `Turn`.
+    fn post_all<Q: PartnerSide>(&mut self, alloc: Global, side: &mut Q) -> Result<(), AllocError>
+        ensures moves { (cs : List Completion) × LogsBy Q.moved self.old.log.items self.new.log.items side.old side.new (map Posted cs) }
+    {
+        while self.used < self.script.len() {
+            match self.script[self.used] {
+                Scripted::Turn => {
+                    self.used += 1;
+                    return Ok(());
+                }
+                Scripted::Post {
+                    user_data,
+                    result,
+                    flags,
+                    loan,
+                } => {
+                    if side.room() == 0 {
+                        return Ok(());
+                    }
+                    self.post_one(alloc, side, user_data, result, flags, loan)?;
+                    self.used += 1;
+                }
+            }
+        }
+        Ok(())
+    }
+
+    fn run_turn<Q: PartnerSide>(
+        &mut self,
+        alloc: Global,
+        to_submit: u32,
+        side: &mut Q,
+    ) -> Result<u32, AllocError>
+        ensures moves { (ms : List Move) × Enters hostile_log no_state Q.moved self.old self.new side.old side.new ms
+            × IsCall (is_ok result) to_submit (Q.lists side.old) ms
+            × IfOk result (λ n. n ≡ length (took ms)) }
+    {
+        let turn = self.begin_turn(side, to_submit)?;
+        self.take_all(side, turn)?;
+        self.post_all(alloc, side)?;
+        Ok(turn)
+    }
+}
+
+/// The loan that a post carries, and a copy of it.
+fn planned_loan(
+    alloc: Global,
+    held: &mut Vec<Loan>,
+    number: u64,
+    plan: LoanPlan,
+) -> Result<(Option<Loan>, Option<Loan>), AllocError>
+    ensures { IfOk result (λ pair. pair.1 ≡ pair.0) }
+{
+    match plan {
+        LoanPlan::Nothing => Ok((None, None)),
+        LoanPlan::Lent => take_held(alloc, held, number),
+        LoanPlan::Foreign(other) => Ok((
+            Some(no_bytes(alloc, other)),
+            Some(no_bytes(alloc, other)),
+        )),
+    }
+}
+
+/// The first loan of this number that is held, and a copy of it.
+fn take_held(
+    alloc: Global,
+    held: &mut Vec<Loan>,
+    number: u64,
+) -> Result<(Option<Loan>, Option<Loan>), AllocError>
+    ensures { IfOk result (λ pair. pair.1 ≡ pair.0) }
+{
+    for place in 0..held.len() {
+        if held[place].number == number {
+            let copy = held[place].try_clone(alloc)?;
+            return Ok((Some(held.remove(place)), Some(copy)));
+        }
+    }
+    Ok((None, None))
+}
+
+fn no_bytes(alloc: Global, number: u64) -> Loan
+    ensures { result ≡ record { number = number; from = 0; buf = [] } }
+{
+    Loan {
+        number,
+        from: 0,
+        buf: Buf::new(alloc),
+    }
+}
+
+impl Counts for HostilePartner {
+    ghost faults = { λ _. 0 };
+}
+
+impl Partner for HostilePartner {
+    ghost use Rattle.std.specs.Prelude.{[], length, refl};
+    ghost use Rattle.uring_partner.specs.Logs.{hostile_log, no_state};
+
+    ghost log = { hostile_log };
+
+    ghost log_count = { λ p. length p.log.items };
+
+    ghost state = { no_state };
+
+    ghost plan = { λ _. [] };
+
+    fn enter<Q: PartnerSide>(
+        &mut self,
+        alloc: Global,
+        call: &EnterCall,
+        side: &mut Q,
+    ) -> Result<u32, PartnerError> {
+        match self.run_turn(alloc, call.to_submit, side) {
+            Ok(taken) => Ok(taken),
+            Err(_) => Err(PartnerError::NoMemory),
+        }
+    }
+
+    fn log_len(&self) -> usize {
+        self.log.len()
+    }
+
+    fn log_event(&self, place: usize) -> Event {
+        event_at(&self.log, place)
+    }
+
+    ghost counts_log = { λ p. refl };
+}
+
+impl Seedable for HostilePartner {
+    /// Does nothing, since it has no files.
+    fn put_file(&mut self, _alloc: Global, _number: u32, _bytes: Buf) -> Result<(), PartnerError> {
+        Ok(())
+    }
+}

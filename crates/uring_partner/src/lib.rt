@@ -1,0 +1,17 @@
+//! Partners: what stands in the kernel's place at the other end of both rings.
+#![tactic(auto)]
+
+mod call;
+mod chain;
+mod hostile;
+mod logging;
+mod memory;
+mod plan;
+mod scan;
+mod settle;
+mod traits;
+
+pub use call::{EnterCall, PartnerError};
+pub use hostile::{HostilePartner, LoanPlan, Scripted};
+pub use memory::MemoryPartner;
+pub use traits::{Counts, Partner, Seedable};

@@ -1,0 +1,369 @@
+//! A partner whose files are in memory.
+
+ghost use Rattle.std.specs.Prelude.{◌≡◌, ◌<◌, [], ◌∷◌, ◌++◌, true, vec_len, vec_capacity};
+
+use crate::call::{EnterCall, PartnerError};
+use crate::chain::{mark_if, pass_on};
+use crate::logging::{event_at, push_known};
+use crate::plan::pass_enter;
+use crate::scan::chosen_place;
+use crate::settle::settle;
+use crate::traits::{Counts, Partner, Seedable};
+use std::alloc::{AllocError, Global};
+use std::collections::VecDeque;
+use uring_entry::{Buf, Completion, Event, Loan, LogEvent};
+use uring_model::{Files, Pending, has_link};
+use uring_ring::PartnerSide;
+
+#[cfg(test)]
+mod tests;
+
+/// A partner that keeps its files in memory, and tells all that it does.
+///
+/// A turn takes entries, and settles those that are ready while the side has room. Which of the
+/// ready ones settles next, and whether the turn goes on after it, its next choice says; once the
+/// choices have run out, they settle in the order of their taking.
+#[derive(Drop)]
+pub struct MemoryPartner {
+    files: Files,
+    pending: VecDeque<Pending>,
+    // Where the entry taken last has a link: whether the next one is cut.
+    tail: Option<bool>,
+    choices: VecDeque<u32>,
+    log: Vec<LogEvent>,
+    // Which of the next enters fail, counted from 1.
+    plan: Vec<u64>,
+    faults: u64,
+}
+
+impl MemoryPartner {
+    ghost use Rattle.std.specs.Prelude.{◌≡◌, ◌+◌, ◌<◌, ◌≤◌, ◌↔◌, ◌++◌, ◌∷◌, [], ℕ, List, length, map, min, Option, Some, option_copied, option_map, IfErr, IfOk, IfSome, IsTrue, OnOk, OnErr, is_ok, vec_len, vec_capacity};
+    ghost use Rattle.std.specs.VecDeque.{deque_len, deque_capacity};
+    ghost use Rattle.std.specs.FinMap as finite;
+    ghost use Rattle.uring_entry.specs.declared.events.Taken.{Taken};
+    ghost use Rattle.uring_model.specs.Chosen.{choice};
+    ghost use Rattle.uring_model.specs.Moves.{Move, Turned, Took, Posted, took, logged};
+    ghost use Rattle.uring_model.specs.Partner.{IsIdle, Settles, after_settle, after_take, answer_to, idle};
+    ghost use Rattle.uring_model.specs.Turn.{settle_turn, take_all};
+    ghost use Rattle.uring_ring.specs.Lists.{room_of};
+    ghost use Rattle.uring_partner.specs.Calls.{Enters, IsCall, IsWholeTurn};
+    ghost use Rattle.uring_partner.specs.Parts.{GoesBy};
+    ghost use Rattle.uring_partner.specs.Told.{state_of, told_state, told_log, told_plan, told_faults};
+
+    /// A partner without files, entries, choices or events.
+    pub fn new(alloc: Global) -> MemoryPartner
+        ensures state { told_state result ≡ Some (idle finite.empty []) }
+        ensures log { told_log result ≡ Some [] }
+        ensures plan { told_plan result ≡ [] }
+        ensures faults { told_faults result ≡ 0 }
+    {
+        MemoryPartner {
+            files: Files::new(alloc),
+            pending: VecDeque::new(alloc),
+            tail: None,
+            choices: VecDeque::new(alloc),
+            log: Vec::new(alloc),
+            plan: Vec::new(alloc),
+            faults: 0,
+        }
+    }
+
+    /// Whether nothing is taken and unsettled, and the entry taken last, if any, has no link.
+    pub fn is_idle(&self) -> bool
+        ensures { IsTrue result ↔ IsIdle (state_of self.now) }
+    {
+        self.pending.is_empty() && self.tail.is_none()
+    }
+
+    /// How many entries are taken and unsettled.
+    pub fn pending(&self) -> usize
+        ensures { result ≡ length (state_of self.now).pending }
+    {
+        self.pending.len()
+    }
+
+    /// How many bytes the file of this number has.
+    pub fn file_len(&self, number: u32) -> Option<usize>
+        ensures { result ≡ option_map length (finite.get (state_of self.now).files number) }
+    {
+        match self.files.get(number) {
+            Some(file) => Some(file.len()),
+            None => None,
+        }
+    }
+
+    /// The bytes of the file of this number.
+    pub fn file_bytes(&self, number: u32) -> Option<&[u8]>
+        ensures { option_copied result ≡ finite.get (state_of self.now).files number }
+    {
+        match self.files.get(number) {
+            Some(file) => Some(file.as_slice()),
+            None => None,
+        }
+    }
+
+    /// How many enters failed by plan. It stays at its last value once there.
+    pub fn faults(&self) -> u64
+        ensures { result ≡ told_faults self.now }
+    {
+        self.faults
+    }
+
+    /// Lets the `k`-th enter from now, counted from 1, fail with errno 5. It does nothing else
+    /// then than to count that.
+    pub fn fail_enter(&mut self, _alloc: Global, k: u64) -> Result<(), PartnerError>
+        requires { 1 ≤ k }
+        ensures ok { OnOk result (told_plan self.new ≡ told_plan self.old ++ k ∷ []) }
+        ensures err { OnErr result (told_plan self.new ≡ told_plan self.old) }
+        ensures memory { IfErr result (λ e. e ≡ PartnerError.NoMemory) }
+        ensures state { told_state self.new ≡ told_state self.old }
+        ensures log { told_log self.new ≡ told_log self.old }
+        ensures faults { told_faults self.new ≡ told_faults self.old }
+    {
+        if self.plan.push(k).is_err() {
+            return Err(PartnerError::NoMemory);
+        }
+        Ok(())
+    }
+
+    fn next_choice(&self) -> u32
+        ensures { result ≡ choice self.now.choices.items }
+    {
+        match self.choices.front() {
+            Some(c) => *c,
+            None => 1,
+        }
+    }
+
+    /// Begins a turn, over the smaller of what is asked and what is published.
+    fn begin_turn<Q: PartnerSide>(
+        &mut self,
+        side: &mut Q,
+        to_submit: u32,
+    ) -> Result<u32, AllocError>
+        ensures ok { IfOk result (λ p. GoesBy Q.moved self.old self.new side.old side.new (Turned p ∷ [])) }
+        ensures fits { IfOk result (λ p. (p ≤ to_submit) × (p ≤ Q.ready side.new)) }
+        ensures told { IfOk result (λ p. IfSome (Q.lists side.old) (λ l. p ≡ min to_submit (length l.published))) }
+        ensures err { OnErr result (GoesBy Q.moved self.old self.new side.old side.new []) }
+        ensures state { state_of self.new ≡ state_of self.old }
+    {
+        let turn = side.published().min(to_submit);
+        self.log.try_reserve(1)?;
+        push_known(&mut self.log, LogEvent::Turn(turn));
+        Ok(turn)
+    }
+
+    /// Takes the entry in front.
+    fn take_one<Q: PartnerSide>(&mut self, side: &mut Q) -> Result<(), AllocError>
+        requires { 0 < Q.ready side.old }
+        ensures ok { OnOk result ((t : Taken) × GoesBy Q.moved self.old self.new side.old side.new (Took t ∷ []) × (state_of self.new ≡ after_take (state_of self.old) t)) }
+        ensures ready { OnOk result (Q.ready side.old ≡ Q.ready side.new + 1) }
+        ensures err { OnErr result (GoesBy Q.moved self.old self.new side.old side.new [] × (state_of self.new ≡ state_of self.old)) }
+    {
+        self.log.try_reserve(1)?;
+        self.pending.try_reserve(1)?;
+        let Some(taken) = side.take() else {
+            unreachable!();
+        };
+        let job = taken.entry.user_data;
+        let entry = taken.entry;
+        push_known(&mut self.log, LogEvent::Take { job, entry });
+        let cut = self.tail == Some(true);
+        self.tail = if has_link(&taken) { Some(false) } else { None };
+        self.pending.push_back_reserved(Pending {
+            taken,
+            cut,
+            marked: false,
+        });
+        Ok(())
+    }
+
+    /// Takes this many entries.
+    fn take_all<Q: PartnerSide>(&mut self, side: &mut Q, count: u32) -> Result<(), AllocError>
+        requires { count ≤ Q.ready side.old }
+        ensures moves { (ts : List Taken) × GoesBy Q.moved self.old self.new side.old side.new (map Took ts) × (state_of self.new ≡ take_all (state_of self.old) ts) × (length ts ≤ count) × OnOk result (length ts ≡ count) }
+    {
+        for i in 0..count {
+            self.take_one(side)?;
+        }
+        Ok(())
+    }
+
+    /// Settles the ready entry that the next choice names, and gives what is to be posted.
+    fn settle_next(&mut self, alloc: Global) -> Result<Completion, AllocError>
+        requires { 0 < deque_len self.old.pending }
+        ensures ok { IfOk result (λ c. (s : Settles (state_of self.old) c) × (state_of self.new ≡ after_settle (state_of self.old) s.cursor (answer_to self.old.files s.cursor))) }
+        ensures log { IfOk result (λ c. self.new.log.items ≡ self.old.log.items ++ logged (Posted c) ∷ []) }
+        ensures err { OnErr result ((state_of self.new ≡ state_of self.old) × (self.new.log.items ≡ self.old.log.items)) }
+        ensures faults { self.new.faults ≡ self.old.faults }
+        ensures plan { self.new.plan.items ≡ self.old.plan.items }
+    {
+        self.log.try_reserve(1)?;
+        let place = chosen_place(&self.pending, self.next_choice());
+        let Some(mut item) = self.pending.remove(place) else {
+            unreachable!();
+        };
+        match settle(alloc, &mut self.files, &self.pending, &mut item) {
+            Err(error) => {
+                if let Err(_refused) = self.pending.insert(place, item) {
+                    unreachable!();
+                }
+                Err(error)
+            }
+            Ok(settled) => {
+                let is_linked = has_link(&item.taken);
+                pass_on(
+                    &mut self.pending,
+                    &mut self.tail,
+                    place,
+                    is_linked,
+                    settled.cut,
+                );
+                mark_if(&mut self.pending, settled.answered.marks);
+                let _used = self.choices.pop_front();
+                let job = item.taken.entry.user_data;
+                let outcome = settled.answered.result;
+                push_known(&mut self.log, final_post(job, outcome, settled.copy));
+                Ok(final_completion(job, outcome, item.taken.loan))
+            }
+        }
+    }
+
+    /// Settles while anything is pending and the side has room, until an even choice.
+    fn settle_all<Q: PartnerSide>(&mut self, alloc: Global, side: &mut Q) -> Result<(), AllocError>
+        ensures moves { (n : ℕ) × GoesBy Q.moved self.old self.new side.old side.new (map Posted (settle_turn n (state_of self.old)).posts) × (state_of self.new ≡ (settle_turn n (state_of self.old)).state) × OnOk result (IfSome (Q.lists side.old) (λ l. settle_turn n (state_of self.old) ≡ settle_turn (room_of l) (state_of self.old))) }
+    {
+        while !self.pending.is_empty() {
+            if side.room() == 0 {
+                return Ok(());
+            }
+            let choice = self.next_choice();
+            let completion = self.settle_next(alloc)?;
+            post_known(side, completion);
+            if choice % 2 == 0 {
+                return Ok(());
+            }
+        }
+        Ok(())
+    }
+
+    /// One turn over the side.
+    fn run_turn<Q: PartnerSide>(
+        &mut self,
+        alloc: Global,
+        to_submit: u32,
+        side: &mut Q,
+    ) -> Result<u32, AllocError>
+        ensures moves { (ms : List Move) × Enters told_log told_state Q.moved self.old self.new side.old side.new ms
+            × IsCall (is_ok result) to_submit (Q.lists side.old) ms
+            × IfOk result (λ n. n ≡ length (took ms))
+            × OnOk result (IsWholeTurn (told_state self.old) (Q.lists side.old) ms) }
+        ensures faults { self.new.faults ≡ self.old.faults }
+        ensures plan { self.new.plan.items ≡ self.old.plan.items }
+    {
+        let turn = self.begin_turn(side, to_submit)?;
+        self.take_all(side, turn)?;
+        self.settle_all(alloc, side)?;
+        Ok(turn)
+    }
+}
+
+fn final_post(job: u64, outcome: i32, loan: Option<Loan>) -> LogEvent
+    ensures { result ≡ LogEvent.Post job outcome true loan }
+{
+    LogEvent::Post {
+        job,
+        result: outcome,
+        fin: true,
+        loan,
+    }
+}
+
+fn final_completion(job: u64, outcome: i32, loan: Option<Loan>) -> Completion
+    ensures { result ≡ record { user_data = job; result = outcome; flags = 0; big = 0 ∷ 0 ∷ []; loan = loan } }
+{
+    Completion {
+        user_data: job,
+        result: outcome,
+        flags: 0,
+        big: [0, 0],
+        loan,
+    }
+}
+
+/// Posts where there is room.
+fn post_known<Q: PartnerSide>(side: &mut Q, completion: Completion)
+    requires { 0 < Q.space side.old }
+    ensures { Q.moved side.old [] (completion ∷ []) side.new }
+{
+    if let Err(_back) = side.post(completion) {
+        unreachable!();
+    }
+}
+
+impl Counts for MemoryPartner {
+    ghost use Rattle.uring_partner.specs.Told.{told_faults};
+
+    ghost faults = { told_faults };
+}
+
+impl Partner for MemoryPartner {
+    ghost use Rattle.std.specs.Prelude.{◌≡◌, List, length, refl, Contains, IfErr, IfOk, IfSome, IsTrue, OnOk, is_ok};
+    ghost use Rattle.uring_entry.specs.Causes.{HasCause};
+    ghost use Rattle.uring_model.specs.Moves.{Move, took};
+    ghost use Rattle.uring_partner.specs.Calls.{Enters, IsCall, IsWholeTurn, is_fault, later_plan};
+    ghost use Rattle.uring_partner.specs.Parts.{IsPlannedFailure};
+    ghost use Rattle.uring_partner.specs.Told.{told_log, told_state, told_plan, told_faults};
+
+    ghost log = { told_log };
+
+    ghost log_count = { λ p. length p.log.items };
+
+    ghost state = { told_state };
+
+    ghost plan = { told_plan };
+
+    fn enter<Q: PartnerSide>(
+        &mut self,
+        alloc: Global,
+        call: &EnterCall,
+        side: &mut Q,
+    ) -> Result<u32, PartnerError>
+        ensures moves { (ms : List Move) × Enters told_log told_state Q.moved self.old self.new side.old side.new ms
+            × IsCall (is_ok result) call.now.to_submit (Q.lists side.old) ms
+            × IfOk result (λ n. n ≡ length (took ms))
+            × OnOk result (IsWholeTurn (told_state self.old) (Q.lists side.old) ms) }
+        ensures cause { HasCause is_fault (told_faults self.old) (told_faults self.new) result }
+        ensures planned { IfSome (told_state self.old) (λ _. IfErr result (λ e. IsTrue (is_fault e) → Contains (told_plan self.old) 1)) }
+        ensures plan { told_plan self.new ≡ later_plan (told_plan self.old) }
+        ensures fails { Contains (told_plan self.old) 1 → IsPlannedFailure result self.old self.new × (side.new ≡ side.old) }
+    {
+        if pass_enter(&mut self.plan) {
+            self.faults = self.faults.saturating_add(1);
+            return Err(PartnerError::Fault(5));
+        }
+        match self.run_turn(alloc, call.to_submit, side) {
+            Ok(taken) => Ok(taken),
+            Err(_) => Err(PartnerError::NoMemory),
+        }
+    }
+
+    fn log_len(&self) -> usize {
+        self.log.len()
+    }
+
+    fn log_event(&self, place: usize) -> Event {
+        event_at(&self.log, place)
+    }
+
+    ghost counts_log = { λ p. refl };
+}
+
+impl Seedable for MemoryPartner {
+    fn put_file(&mut self, alloc: Global, number: u32, bytes: Buf) -> Result<(), PartnerError> {
+        if self.files.put(alloc, number, bytes).is_err() {
+            return Err(PartnerError::NoMemory);
+        }
+        Ok(())
+    }
+}

@@ -1,0 +1,167 @@
+//! What the entry that settles is answered.
+
+ghost use Rattle.std.specs.Prelude.{◌≡◌, if◌then◌else◌, IfOk, OnOk, OnErr, ℕ, length};
+ghost use Rattle.uring_entry.specs.Loans.{part_of, with_part};
+ghost use Rattle.uring_model.specs.Asked.{op_in, answer_in, FindsAs, PartFits};
+ghost use Rattle.uring_model.specs.Partner.{job_of, has_unmarked};
+ghost use Rattle.uring_model.specs.Replay.{cuts, due, below};
+ghost use Rattle.uring_partner.specs.Settling.{answered_among, bare, settled_item};
+
+use crate::chain::{can_mark, cuts_next};
+use std::alloc::{AllocError, Global};
+use std::collections::VecDeque;
+use uring_entry::Loan;
+use uring_model::{Answered, Asked, Files, Pending, perform, what_is_asked};
+
+/// What a settling answers, whether it cuts the next entry of its chain, and a copy of the loan
+/// that it posts.
+#[derive(Drop)]
+pub struct Settled {
+    pub answered: Answered,
+    pub cut: bool,
+    pub copy: Option<Loan>,
+}
+
+fn part_len(loan: &Option<Loan>) -> usize
+    ensures { result ≡ length (part_of loan.now) }
+{
+    match loan {
+        None => 0,
+        Some(loan) => loan.buf.len().saturating_sub(loan.from as usize),
+    }
+}
+
+/// The least result that an operation is due.
+fn least_due(asked: Asked, loan: &Option<Loan>) -> usize
+    ensures { result ≡ due (op_in asked) (part_of loan.now) }
+{
+    match asked {
+        Asked::Read { .. } | Asked::Write { .. } => part_len(loan),
+        _ => 0,
+    }
+}
+
+fn is_below(outcome: i32, least: usize) -> bool
+    ensures { result ≡ below outcome least }
+{
+    outcome < 0 || (outcome as usize) < least
+}
+
+fn finds_job(rest: &VecDeque<Pending>, asked: Asked) -> bool
+    ensures { FindsAs (λ number. has_unmarked number rest.now.items) result asked }
+{
+    match asked {
+        Asked::Cancel { number } => can_mark(rest, number),
+        _ => false,
+    }
+}
+
+fn perform_on_loan(
+    alloc: Global,
+    files: &mut Files,
+    asked: Asked,
+    can_cancel: bool,
+    loan: &mut Option<Loan>,
+) -> Result<Answered, AllocError>
+    requires { PartFits asked (part_of loan.old) }
+    ensures result { IfOk result (λ answered. answered.result ≡ (answer_in files.old can_cancel asked (part_of loan.old)).result) }
+    ensures marks { IfOk result (λ answered. answered.marks ≡ (answer_in files.old can_cancel asked (part_of loan.old)).marks) }
+    ensures files { OnOk result (files.new ≡ (answer_in files.old can_cancel asked (part_of loan.old)).files) }
+    ensures loan { OnOk result (loan.new ≡ with_part loan.old (answer_in files.old can_cancel asked (part_of loan.old)).buf) }
+    ensures err { OnErr result ((files.new ≡ files.old) × (loan.new ≡ loan.old)) }
+{
+    match loan {
+        None => perform(alloc, files, asked, can_cancel, &mut []),
+        Some(loan) => {
+            let from = loan.buf.len().min(loan.from as usize);
+            perform(
+                alloc,
+                files,
+                asked,
+                can_cancel,
+                &mut loan.buf.as_mut_slice()[from..],
+            )
+        }
+    }
+}
+
+/// Answers an entry; `rest` are the other pending ones.
+fn answer(
+    alloc: Global,
+    files: &mut Files,
+    rest: &VecDeque<Pending>,
+    asked: Asked,
+    item: &mut Pending,
+) -> Result<Answered, AllocError>
+    requires fits { PartFits asked (part_of item.old.taken.loan) }
+    requires asks { op_in asked ≡ (job_of item.old.taken).op }
+    ensures result { IfOk result (λ answered. answered.result ≡ (answered_among files.old rest.now.items item.old).result) }
+    ensures marks { IfOk result (λ answered. answered.marks ≡ (answered_among files.old rest.now.items item.old).marks) }
+    ensures files { OnOk result (files.new ≡ (answered_among files.old rest.now.items item.old).files) }
+    ensures item { OnOk result (item.new ≡ settled_item item.old (answered_among files.old rest.now.items item.old).buf) }
+    ensures err { OnErr result ((files.new ≡ files.old) × (item.new ≡ item.old)) }
+{
+    if item.marked || item.cut {
+        return Ok(Answered::plain(-125));
+    }
+    let can_cancel = finds_job(rest, asked);
+    perform_on_loan(alloc, files, asked, can_cancel, &mut item.taken.loan)
+}
+
+fn copy_of(alloc: Global, loan: &Option<Loan>) -> Result<Option<Loan>, AllocError>
+    ensures { IfOk result (λ copy. copy ≡ loan.now) }
+{
+    match loan {
+        None => Ok(None),
+        Some(loan) => {
+            let copy = loan.try_clone(alloc)?;
+            Ok(Some(copy))
+        }
+    }
+}
+
+/// Gives a copy the bytes that the loan has now.
+fn match_copy(copy: &mut Option<Loan>, loan: &Option<Loan>)
+    requires alike { bare copy.old ≡ bare loan.now }
+    ensures { copy.new ≡ loan.now }
+{
+    if let (Some(to), Some(from)) = (copy, loan) {
+        to.buf.as_mut_slice().copy_from_slice(from.buf.as_slice());
+    }
+}
+
+fn either(test: bool, yes: bool, no: bool) -> bool
+    ensures { result ≡ (if test then yes else no) }
+{
+    if test { yes } else { no }
+}
+
+/// Settles an entry; `rest` are the other pending ones.
+pub fn settle(
+    alloc: Global,
+    files: &mut Files,
+    rest: &VecDeque<Pending>,
+    item: &mut Pending,
+) -> Result<Settled, AllocError>
+    ensures result { IfOk result (λ settled. settled.answered.result ≡ (answered_among files.old rest.now.items item.old).result) }
+    ensures marks { IfOk result (λ settled. settled.answered.marks ≡ (answered_among files.old rest.now.items item.old).marks) }
+    ensures cut { IfOk result (λ settled. settled.cut ≡ cuts item.old.cut (job_of item.old.taken) (answered_among files.old rest.now.items item.old).result) }
+    ensures copy { IfOk result (λ settled. settled.copy ≡ item.new.taken.loan) }
+    ensures files { OnOk result (files.new ≡ (answered_among files.old rest.now.items item.old).files) }
+    ensures item { OnOk result (item.new ≡ settled_item item.old (answered_among files.old rest.now.items item.old).buf) }
+    ensures err { OnErr result ((files.new ≡ files.old) × (item.new ≡ item.old)) }
+{
+    let asked = what_is_asked(&item.taken);
+    let least = least_due(asked, &item.taken.loan);
+    let where_bad = cuts_next(&item.taken, item.cut, true);
+    let where_good = cuts_next(&item.taken, item.cut, false);
+    let mut copy = copy_of(alloc, &item.taken.loan)?;
+    let answered = answer(alloc, files, rest, asked, item)?;
+    match_copy(&mut copy, &item.taken.loan);
+    let cut = either(is_below(answered.result, least), where_bad, where_good);
+    Ok(Settled {
+        answered,
+        cut,
+        copy,
+    })
+}

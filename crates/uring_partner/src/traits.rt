@@ -1,0 +1,81 @@
+//! What a partner is.
+
+use crate::call::{EnterCall, PartnerError};
+use std::alloc::Global;
+use uring_entry::{Buf, Event};
+use uring_ring::PartnerSide;
+
+/// Whatever counts its faults. The count never falls.
+pub trait Counts {
+    ghost use Rattle.std.specs.Prelude.{ℕ};
+
+    ghost faults: { Self → ℕ };
+}
+
+/// What stands in the kernel's place. Where it tells its log, the log is kept, with a copy of
+/// each posted loan; where it tells its files, the clauses say what each call made of them.
+pub trait Partner: Counts {
+    ghost use Rattle.std.specs.Prelude.{◌≡◌, ◌<◌, ◌↔◌, ℕ, List, Option, Some, OnOk, IfOk, IfErr, IfSome, IsTrue, Contains, is_ok, length, slice_get};
+    ghost use Rattle.std.specs.Option.{option_map};
+    ghost use Rattle.uring_entry.specs.declared.events.LogEvent.{LogEvent};
+    ghost use Rattle.uring_entry.specs.Causes.{HasCause};
+    ghost use Rattle.uring_model.specs.Moves.{Move, event_of, took};
+    ghost use Rattle.uring_model.specs.Partner.{PartnerState};
+    ghost use Rattle.uring_partner.specs.Calls.{Enters, IsCall, IsWholeTurn, is_fault, later_plan};
+
+    // The events of all calls, where the partner tells them, and how many there are.
+    ghost log: { Self → Option (List LogEvent) };
+
+    ghost log_count: { Self → ℕ };
+
+    // Its files, what is taken and unsettled, and the choices left, where it tells them.
+    ghost state: { Self → Option PartnerState };
+
+    // Which of the next enters fail by plan, counted from 1.
+    ghost plan: { Self → List ℕ };
+
+    /// One turn over the side: takes entries from the front of what is published, at most
+    /// `to_submit`, and posts completions only where they fit. Answers how many were taken.
+    /// After a failure the log keeps what was added before it.
+    fn enter<Q: PartnerSide>(
+        &mut self,
+        alloc: Global,
+        call: &EnterCall,
+        side: &mut Q,
+    ) -> Result<u32, PartnerError>
+        ensures moves { (ms : List Move) × Enters log state Q.moved self.old self.new side.old side.new ms
+            × IsCall (is_ok result) call.now.to_submit (Q.lists side.old) ms
+            × IfOk result (λ n. n ≡ length (took ms))
+            × OnOk result (IsWholeTurn (state self.old) (Q.lists side.old) ms) }
+        ensures cause { HasCause is_fault (Self.faults self.old) (Self.faults self.new) result }
+        ensures planned { IfSome (state self.old) (λ _. IfErr result (λ e. IsTrue (is_fault e) → Contains (plan self.old) 1)) }
+        ensures plan { plan self.new ≡ later_plan (plan self.old) };
+
+    /// The number of events in the log.
+    fn log_len(&self) -> usize
+        ensures { result ≡ log_count self.now };
+
+    /// One event of the log, without its entry and loan.
+    fn log_event(&self, place: usize) -> Event
+        requires { place < log_count self.now }
+        ensures { IfSome (log self.now) (λ l. option_map event_of (slice_get l place) ≡ Some result) };
+
+    ghost counts_log: { (partner : Self) → IfSome (log partner) (λ l. log_count partner ≡ length l) };
+}
+
+/// A partner that can be given files.
+pub trait Seedable: Partner {
+    ghost use Rattle.std.specs.Prelude.{◌≡◌, OnOk, OnErr, IfSome, IfErr, false};
+    ghost use Rattle.uring_entry.specs.Causes.{HasCause};
+    ghost use Rattle.uring_partner.specs.Calls.{is_fault, StateBecomes, with_file};
+
+    /// Puts a file with these bytes under the number, in place of what stood there. A partner
+    /// that tells its files is never at fault here.
+    fn put_file(&mut self, alloc: Global, number: u32, bytes: Buf) -> Result<(), PartnerError>
+        ensures ok { OnOk result (StateBecomes (Self.state self.old) (with_file number bytes) (Self.state self.new)) }
+        ensures err { OnErr result (Self.state self.new ≡ Self.state self.old) }
+        ensures log { Self.log self.new ≡ Self.log self.old }
+        ensures plan { Self.plan self.new ≡ Self.plan self.old }
+        ensures cause { HasCause is_fault (Self.faults self.old) (Self.faults self.new) result }
+        ensures no_fault { IfSome (Self.state self.old) (λ _. IfErr result (λ e. is_fault e ≡ false) × (Self.faults self.new ≡ Self.faults self.old)) };
+}
