@@ -1,0 +1,13 @@
+pub mod SlotLemmas
+pub mod EntryLemmas
+pub mod RingLemmas
+pub mod LandLemmas
+pub mod RoundLemmas
+pub mod Posts
+pub mod Prompt
+pub mod Running
+pub mod Journal
+pub mod Asks
+pub mod Results
+pub mod Says
+pub mod Opened

@@ -1,0 +1,7 @@
+pub mod Entries
+pub mod Told
+pub mod Slots
+pub mod Rounds
+pub mod Driven
+pub mod Memory
+pub mod Runs

@@ -1,0 +1,64 @@
+//! A run, round by round.
+
+ghost use Rattle.std.specs.Prelude.{◌≡◌, ◌+◌, ◌<◌, ◌≤◌, ◌^◌, ℕ, cond, false, List, [], None, Some, MatchResult, IfErr, IfSome, IsTrue, Contains, length};
+ghost use Rattle.uring_entry.specs.Causes.{HasCause};
+ghost use Rattle.uring_model.specs.Moves.{posted, log_of};
+ghost use Rattle.uring_model.specs.Partner.{PartnerState, IsIdle};
+ghost use Rattle.uring_model.specs.Progress.{turns};
+ghost use Rattle.uring_model.specs.Strange.{nothing_seen, first_strange};
+ghost use Rattle.uring_ring.specs.Lists.{Lists};
+ghost use Rattle.uring_run.specs.Entries.{lends_in};
+ghost use Rattle.uring_run.specs.Rounds.{IsCalm, is_partner_fault, is_stall};
+ghost use Rattle.uring_run.specs.Driven.{Driven, IsGivenUp};
+ghost use Rattle.uring_run.specs.Slots.{count_open, slots_from};
+
+use crate::entries::Offer;
+use crate::round::round;
+use crate::table::Table;
+use std::alloc::Global;
+use std::collections::VecDeque;
+use uring_model::RunFault;
+use uring_partner::Partner;
+use uring_ring::{PartnerSide, UserEnds};
+
+/// How many turns in a row had no final post.
+fn quiet_after(fin: bool, quiet: u32) -> u32
+    requires { quiet + 1 < 2 ^ 32 }
+    ensures { result ≡ cond fin 0 (quiet + 1) }
+{
+    if fin { 0 } else { quiet + 1 }
+}
+
+/// Goes on in rounds until each job has its outcome, or `idle` turns in a row had no final
+/// post.
+pub fn drive<R: UserEnds + PartnerSide, P: Partner>(
+    alloc: Global,
+    idle: u32,
+    ring: &mut R,
+    partner: &mut P,
+    todo: &mut VecDeque<Offer>,
+    table: &mut Table,
+) -> Result<(), RunFault>
+    requires idle { 0 < idle }
+    requires empty { (l : Lists) × (R.lists ring.old ≡ Some l) × IsCalm l (R.room ring.old) × (l.published ≡ []) }
+    requires holds { (0 < R.entries_fit ring.old) × (0 < R.completions_fit ring.old) }
+    requires slots { (table.old.slots.items ≡ slots_from 0 todo.old.items []) × (table.old.started ≡ 0) }
+    ensures run { (r : Driven P.log P.state partner.old partner.new todo.old.items (R.entries_fit ring.old) idle)
+        × MatchResult result
+        (λ _. (count_open table.new.slots.items ≡ 0) × (table.new.slots.items ≡ slots_from 0 todo.old.items (posted r.moves)) × (first_strange (lends_in todo.old.items) nothing_seen (log_of r.moves) ≡ None)
+        × ((a : PartnerState) → P.state partner.old ≡ Some a → IsIdle a → turns r.moves ≤ length todo.old.items))
+        (λ e. IsGivenUp todo.old.items idle (log_of r.moves) e) }
+    ensures cause { HasCause is_partner_fault (P.faults partner.old) (P.faults partner.new) result }
+    ensures unplanned { IfSome (P.state partner.old) (λ _. P.plan partner.old ≡ [] → IfErr result (λ e. is_partner_fault e ≡ false)) }
+    ensures unstalled { IfSome (P.state partner.old) (λ a. IsIdle a → IfErr result (λ e. is_stall e ≡ false)) }
+{
+    let mut quiet = 0;
+    'rounds: while !table.is_whole() {
+        let fin = round(alloc, ring, partner, todo, table)?;
+        quiet = quiet_after(fin, quiet);
+        if quiet == idle {
+            return Err(RunFault::Stalled);
+        }
+    }
+    Ok(())
+}

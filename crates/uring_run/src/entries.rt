@@ -1,0 +1,176 @@
+//! The entries of the jobs.
+
+ghost use Rattle.std.specs.Prelude.{◌≡◌, ◌≤◌, ◌<◌, ◌^◌, IfOk, IfNone, length, true, Some};
+ghost use Rattle.uring_model.specs.Jobs.{asked, buf_lent, is_valid_job, is_valid_at};
+ghost use Rattle.std.specs.Int.{w32, cast_signed};
+ghost use Rattle.uring_entry.specs.Words.{blank};
+ghost use Rattle.uring_run.specs.Entries.{words_of, loan_of, offer_of, offers_from, AllValid, IsInRange, AllInRange, first_bad, unlinked_if, with_drain, with_link};
+
+use std::alloc::{AllocError, Global};
+use std::collections::VecDeque;
+use uring_entry::squeue::{Entry, Flags};
+use uring_entry::{Buf, Loan, first_nop, first_read, first_write};
+use uring_model::{Job, JobKind, Link};
+
+/// An entry that is to be offered, with its loan.
+#[derive(Drop)]
+pub struct Offer {
+    pub entry: Entry,
+    pub loan: Option<Loan>,
+}
+
+/// The largest position and length, and the largest count that a result can tell.
+const LARGEST_PLACE: u64 = 9_223_372_036_854_775_807;
+
+const LARGEST_COUNT: usize = 2_147_483_647;
+
+fn is_in_range(offset: u64, buf: &Buf) -> bool
+    ensures { result ≡ is_valid_at offset buf.now }
+{
+    buf.len() <= LARGEST_COUNT && offset <= LARGEST_PLACE - buf.len() as u64
+}
+
+fn is_valid(job: &Job) -> bool
+    ensures { result ≡ is_valid_job (asked job.now) }
+{
+    match &job.kind {
+        JobKind::Read { offset, buf, .. } | JobKind::Write { offset, buf, .. } => {
+            is_in_range(*offset, buf)
+        }
+        JobKind::Ftruncate { len, .. } => *len <= LARGEST_PLACE,
+        JobKind::Nop | JobKind::Fsync { .. } | JobKind::Cancel { .. } => true,
+    }
+}
+
+// Reading the number shows that it has its type's range.
+fn keep_range(job: &Job)
+    ensures { IsInRange job.now.kind }
+{
+    match &job.kind {
+        JobKind::Read { file, .. }
+        | JobKind::Write { file, .. }
+        | JobKind::Fsync { file }
+        | JobKind::Ftruncate { file, .. } => {
+            let _file = *file;
+        }
+        JobKind::Nop | JobKind::Cancel { .. } => {}
+    }
+}
+
+/// The first job whose buffer is too long for a result, or that reaches past the largest place.
+pub fn first_bad_job(jobs: &[Job]) -> Option<u64>
+    ensures first { result ≡ first_bad 0 jobs.now }
+    ensures none { IfNone result (AllValid jobs.now) }
+    ensures in_range { IfNone result (AllInRange jobs.now) }
+{
+    let mut number = 0;
+    for job in jobs {
+        keep_range(job);
+        if !is_valid(job) {
+            return Some(number);
+        }
+        number += 1;
+    }
+    None
+}
+
+/// The words of job `number` but for its marks; a read or write lends its buffer under the
+/// number.
+fn words_and_loan(number: u64, kind: JobKind) -> (Entry, Option<Loan>)
+    requires { length (buf_lent kind) < 2 ^ 32 }
+    ensures words { result.0 ≡ words_of number kind }
+    ensures loan { result.1 ≡ loan_of number kind }
+{
+    match kind {
+        JobKind::Nop => (first_nop(), None),
+        JobKind::Read { file, offset, buf } => {
+            let words = first_read(file, number, buf.len() as u32, offset);
+            (words, lent(number, buf))
+        }
+        JobKind::Write { file, offset, buf } => {
+            let words = first_write(file, number, buf.len() as u32, offset);
+            (words, lent(number, buf))
+        }
+        JobKind::Fsync { file } => (on_file(3, file, 0), None),
+        JobKind::Ftruncate { file, len } => (on_file(55, file, len), None),
+        JobKind::Cancel { job } => {
+            let words = Entry {
+                fd: -1,
+                addr: job,
+                ..Entry::blank(14)
+            };
+            (words, None)
+        }
+    }
+}
+
+fn lent(number: u64, buf: Buf) -> Option<Loan>
+    ensures { result ≡ Some (record { number = number; from = 0; buf = buf }) }
+{
+    Some(Loan {
+        number,
+        from: 0,
+        buf,
+    })
+}
+
+fn on_file(opcode: u8, file: u32, off: u64) -> Entry
+    ensures { result ≡ record (blank opcode) { fd = cast_signed w32 file; flags = 1; off = off } }
+{
+    Entry {
+        fd: file.cast_signed(),
+        flags: 1,
+        off,
+        ..Entry::blank(opcode)
+    }
+}
+
+fn marked(words: Entry, drain: bool, link: Link) -> Entry
+    ensures { result ≡ with_link link (with_drain drain words) }
+{
+    let drained = if drain {
+        words.flags(Flags::IO_DRAIN)
+    } else {
+        words
+    };
+    match link {
+        Link::Free => drained,
+        Link::Soft => drained.flags(Flags::IO_LINK),
+        Link::Hard => drained.flags(Flags::IO_HARDLINK),
+    }
+}
+
+fn unlinked_if(is_last: bool, job: Job) -> Job
+    ensures { result ≡ unlinked_if is_last job }
+{
+    let link = if is_last { Link::Free } else { job.link };
+    Job { link, ..job }
+}
+
+/// The entry of job `number`, with its loan.
+fn offer_of(number: u64, job: Job) -> Offer
+    requires { length (buf_lent job.kind) < 2 ^ 32 }
+    ensures { result ≡ offer_of number job }
+{
+    let (words, loan) = words_and_loan(number, job.kind);
+    Offer {
+        entry: marked(words, job.drain, job.link).user_data(number),
+        loan,
+    }
+}
+
+/// The entries of all jobs, in their order.
+pub fn offers_of(alloc: Global, jobs: Vec<Job>) -> Result<VecDeque<Offer>, AllocError>
+    requires { AllValid jobs.items }
+    ensures { IfOk result (λ offers. offers.items ≡ offers_from 0 jobs.items) }
+{
+    let mut offers = VecDeque::with_capacity(alloc, jobs.len())?;
+    let mut left = VecDeque::from_vec(jobs);
+    let mut number: u64 = 0;
+    while let Some(job) = left.pop_front() {
+        let is_last = left.is_empty();
+        offers.push_back(offer_of(number, unlinked_if(is_last, job)))?;
+        number += 1;
+    }
+    Ok(offers)
+}
