@@ -1,0 +1,35 @@
+-- What the source gave.
+use Rattle.std.specs.Prelude.{◌≡◌, ℕ, ◌+◌, ◌<◌, ◌≤◌, List, length, Option, Some, IfSome}
+use Rattle.uring_entry.specs.Causes.{Rose}
+use Rattle.uring_streams.specs.Inputs.{input_limit, IsWholeInput}
+use Rattle.uring_text.specs.Lines.{lines_of}
+use Rattle.uring_text.specs.Script.{Told, script_of, IsFaultLine}
+use Rattle.uring_text.specs.declared.status.Status.{Status}
+use Rattle.uring_text.specs.declared.status.Status.TheVariants as ends
+
+-- The whole input was read, which isn't too long, and is a script that tells this.
+pub record GaveScript (left left' : Option (List ℕ)) (taken taken' : ℕ) (told : Told) : Type 0 where
+  pub bytes : List ℕ
+  pub whole : IsWholeInput left left' taken taken' bytes
+  pub script : script_of (lines_of bytes) ≡ Some told
+
+-- The whole input was read, which isn't too long, and is no script by this line.
+pub record GaveFault (left left' : Option (List ℕ)) (taken taken' : ℕ) (line : ℕ) : Type 0 where
+  pub bytes : List ℕ
+  pub whole : IsWholeInput left left' taken taken' bytes
+  pub fault : IsFaultLine (lines_of bytes) line
+
+-- what the source gave where no script came of it
+abbrev pub GaveNone : Option (List ℕ) → Option (List ℕ) → ℕ → ℕ → ℕ → ℕ → Status → Type 0
+GaveNone left left' taken taken' faults faults' ends.ReadFault = Rose faults faults' × (taken' ≤ taken + input_limit)
+GaveNone left left' taken taken' faults faults' ends.TooLong = IfSome left (λ input. input_limit < length input) × (taken + input_limit < taken')
+GaveNone left left' taken taken' faults faults' (ends.Script line) = GaveFault left left' taken taken' line
+GaveNone left left' taken taken' faults faults' ends.NoMemory = taken' ≤ taken + input_limit
+GaveNone left left' taken taken' faults faults' ends.Done = ⊥
+GaveNone left left' taken taken' faults faults' ends.Usage = ⊥
+GaveNone left left' taken taken' faults faults' ends.BadSize = ⊥
+GaveNone left left' taken taken' faults faults' (ends.BadJob job) = ⊥
+GaveNone left left' taken taken' faults faults' (ends.Stranger number) = ⊥
+GaveNone left left' taken taken' faults faults' ends.Stalled = ⊥
+GaveNone left left' taken taken' faults faults' ends.PartnerFault = ⊥
+GaveNone left left' taken taken' faults faults' ends.WriteFault = ⊥

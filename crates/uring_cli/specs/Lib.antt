@@ -1,0 +1,5 @@
+pub mod Words
+pub mod Input
+pub mod Files
+pub mod Runs
+pub mod Ends
