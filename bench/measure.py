@@ -1,0 +1,152 @@
+#!/usr/bin/env python3
+"""Measures the program `run`: time for a job, peak memory, and how both grow with four times the jobs.
+
+usage: measure.py [PROGRAM] [--runs N]
+
+PROGRAM is the built program; without it, crates/uring_cli/out/uring_cli of this repository, which
+`rt run` leaves there. Two kinds of scripts are run, of 65,536 and of 262,144 jobs each:
+
+  nop     jobs that do nothing
+  bytes   three reads of 64 bytes for each write of 64 bytes, on one file of at most 4,160 bytes
+
+Each script is run N times (3, unless said), and the shortest time counts. A run that doesn't end with
+status 0, or whose report lacks a job, stops the measuring with status 1. The goals are those of
+docs/BENCH.md; a goal that is missed is named, and the status is then 1 too.
+"""
+
+import argparse
+import os
+import sys
+import tempfile
+import time
+
+FEW = 65_536
+MANY = 262_144
+
+GOAL_RATIO = 4.4
+GOAL_NOP_MICROSECONDS = 1.0
+GOAL_MEGABYTES = 400.0
+
+INPUT_LIMIT = 16_777_216
+
+
+def here():
+    return os.path.dirname(os.path.dirname(os.path.abspath(__file__)))
+
+
+def nop_lines(jobs):
+    for _ in range(jobs):
+        yield b"nop\n"
+
+
+def bytes_lines(jobs):
+    """Offsets lie below 4,096, so the file stays small; each fourth job is a write."""
+    yield b"file 1 -\n"
+    for job in range(jobs):
+        offset = (job * 1_237) % 4_096
+        if job % 4 == 0:
+            yield b"write 1 %d %s\n" % (offset, (b"%02x" % (job // 4 % 256)) * 64)
+        else:
+            yield b"read 1 %d 64\n" % offset
+
+
+def write_script(path, lines):
+    """Writes line by line, so that this process stays small: a child's peak is never below its own."""
+    with open(path, "wb") as out:
+        for line in lines:
+            out.write(line)
+    size = os.path.getsize(path)
+    if size > INPUT_LIMIT:
+        sys.exit(f"measure.py: {path} has {size} bytes, more than the program takes")
+
+
+def run_once(program, script, report):
+    """Seconds and peak kilobytes of one run, and its status."""
+    with open(script, "rb") as source, open(report, "wb") as out:
+        begin = time.perf_counter()
+        pid = os.posix_spawn(
+            program,
+            [program, "run"],
+            {},
+            file_actions=[
+                (os.POSIX_SPAWN_DUP2, source.fileno(), 0),
+                (os.POSIX_SPAWN_DUP2, out.fileno(), 1),
+            ],
+        )
+        _, state, usage = os.wait4(pid, 0)
+        seconds = time.perf_counter() - begin
+    return seconds, usage.ru_maxrss, os.waitstatus_to_exitcode(state)
+
+
+def check_report(report, jobs):
+    """The report has an outcome for each job, in order, a post for each, and its last line."""
+    outcomes = 0
+    posts = 0
+    last = b""
+    with open(report, "rb") as lines:
+        for last in lines:
+            if last.startswith(b"out "):
+                if not last.startswith(b"out %d " % outcomes):
+                    sys.exit(f"measure.py: the line of outcome {outcomes} is {last!r}")
+                outcomes += 1
+            elif last.startswith(b"post "):
+                posts += 1
+    if outcomes != jobs or posts != jobs or last != b"end\n":
+        sys.exit(f"measure.py: {outcomes} outcomes and {posts} posts for {jobs} jobs, last line {last!r}")
+
+
+def measure(program, folder, name, lines, jobs, runs):
+    """The shortest time and the highest peak of some runs."""
+    script = os.path.join(folder, f"{name}-{jobs}.script")
+    report = os.path.join(folder, f"{name}-{jobs}.report")
+    write_script(script, lines(jobs))
+    best = None
+    peak = 0
+    for _ in range(runs):
+        seconds, kilobytes, status = run_once(program, script, report)
+        if status != 0:
+            sys.exit(f"measure.py: {name} with {jobs} jobs ended with status {status}")
+        best = seconds if best is None else min(best, seconds)
+        peak = max(peak, kilobytes)
+    check_report(report, jobs)
+    os.remove(script)
+    os.remove(report)
+    return best, peak / 1024
+
+
+def print_row(name, jobs, seconds, megabytes):
+    each = seconds * 1_000_000 / jobs
+    print(f"{name:6} {jobs:7} jobs   {seconds:8.3f} s   {each:8.3f} microseconds a job   {megabytes:7.1f} MB")
+
+
+def judge(ok, text):
+    print(f"{'met   ' if ok else 'MISSED'} {text}")
+    return ok
+
+
+def main():
+    parser = argparse.ArgumentParser(description="Measures the program `run`.")
+    parser.add_argument("program", nargs="?", default=os.path.join(here(), "crates", "uring_cli", "out", "uring_cli"))
+    parser.add_argument("--runs", type=int, default=3)
+    words = parser.parse_args()
+    if not os.access(words.program, os.X_OK):
+        sys.exit(f"measure.py: there is no program {words.program}; build it by `rt run` in crates/uring_cli, or name it")
+    program = os.path.abspath(words.program)
+    met = True
+    with tempfile.TemporaryDirectory() as folder:
+        for name, lines in (("nop", nop_lines), ("bytes", bytes_lines)):
+            few, few_peak = measure(program, folder, name, lines, FEW, words.runs)
+            print_row(name, FEW, few, few_peak)
+            many, many_peak = measure(program, folder, name, lines, MANY, words.runs)
+            print_row(name, MANY, many, many_peak)
+            ratio = many / few
+            met &= judge(ratio <= GOAL_RATIO, f"{name}: four times the jobs in {ratio:.2f} times the time (goal: at most {GOAL_RATIO})")
+            met &= judge(many_peak <= GOAL_MEGABYTES, f"{name}: peak {many_peak:.1f} MB (goal: at most {GOAL_MEGABYTES:.0f})")
+            if name == "nop":
+                each = many * 1_000_000 / MANY
+                met &= judge(each <= GOAL_NOP_MICROSECONDS, f"{name}: {each:.3f} microseconds a job (goal: at most {GOAL_NOP_MICROSECONDS:.0f})")
+    sys.exit(0 if met else 1)
+
+
+if __name__ == "__main__":
+    main()
