@@ -335,6 +335,7 @@ impl Partner for MemoryPartner {
             × OnOk result (IsWholeTurn (told_state self.old) (Q.lists side.old) ms) }
         ensures cause { HasCause is_fault (told_faults self.old) (told_faults self.new) result }
         ensures planned { IfSome (told_state self.old) (λ _. IfErr result (λ e. IsTrue (is_fault e) → Contains (told_plan self.old) 1)) }
+        ensures counted { IfSome (told_state self.old) (λ _. ¬ Contains (told_plan self.old) 1 → told_faults self.new ≡ told_faults self.old) }
         ensures plan { told_plan self.new ≡ later_plan (told_plan self.old) }
         ensures fails { Contains (told_plan self.old) 1 → IsPlannedFailure result self.old self.new × (side.new ≡ side.old) }
     {

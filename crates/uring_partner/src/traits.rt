@@ -49,6 +49,7 @@ pub trait Partner: Counts {
             × OnOk result (IsWholeTurn (state self.old) (Q.lists side.old) ms) }
         ensures cause { HasCause is_fault (Self.faults self.old) (Self.faults self.new) result }
         ensures planned { IfSome (state self.old) (λ _. IfErr result (λ e. IsTrue (is_fault e) → Contains (plan self.old) 1)) }
+        ensures counted { IfSome (state self.old) (λ _. ¬ Contains (plan self.old) 1 → Self.faults self.new ≡ Self.faults self.old) }
         ensures plan { plan self.new ≡ later_plan (plan self.old) };
 
     /// The number of events in the log.
