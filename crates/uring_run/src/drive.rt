@@ -50,6 +50,8 @@ pub fn drive<R: UserEnds + PartnerSide, P: Partner>(
         (λ e. IsGivenUp todo.old.items idle (log_of r.moves) e) }
     ensures cause { HasCause is_partner_fault (P.faults partner.old) (P.faults partner.new) result }
     ensures unplanned { IfSome (P.state partner.old) (λ _. P.plan partner.old ≡ [] → IfErr result (λ e. is_partner_fault e ≡ false)) }
+    ensures plan { P.plan partner.old ≡ [] → P.plan partner.new ≡ [] }
+    ensures calm { IfSome (P.state partner.old) (λ _. P.plan partner.old ≡ [] → P.faults partner.new ≡ P.faults partner.old) }
     ensures unstalled { IfSome (P.state partner.old) (λ a. IsIdle a → IfErr result (λ e. is_stall e ≡ false)) }
 {
     let mut quiet = 0;

@@ -83,6 +83,7 @@ pub fn round<R: UserEnds + PartnerSide, P: Partner>(
     ensures inside { table.new.started + length todo.new.items ≡ table.old.started + length todo.old.items }
     ensures cause { HasCause is_partner_fault (P.faults partner.old) (P.faults partner.new) result }
     ensures planned { IfSome (P.state partner.old) (λ _. IfErr result (λ e. IsTrue (is_partner_fault e) → Contains (P.plan partner.old) 1)) }
+    ensures counted { IfSome (P.state partner.old) (λ _. ¬ Contains (P.plan partner.old) 1 → P.faults partner.new ≡ P.faults partner.old) }
     ensures plan { P.plan partner.new ≡ later_plan (P.plan partner.old) }
 {
     offer_some(ring, todo, table);

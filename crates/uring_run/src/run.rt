@@ -75,6 +75,8 @@ fn run_over<R: UserEnds + PartnerSide + Drop, P: Partner>(
     ensures says { RunSays P.log P.state partner.old partner.new jobs.items (R.entries_fit ring) idle result }
     ensures cause { HasCause is_partner_fault (P.faults partner.old) (P.faults partner.new) result }
     ensures unplanned { IfSome (P.state partner.old) (λ _. P.plan partner.old ≡ [] → IfErr result (λ e. is_partner_fault e ≡ false)) }
+    ensures plan { P.plan partner.old ≡ [] → P.plan partner.new ≡ [] }
+    ensures calm { IfSome (P.state partner.old) (λ _. P.plan partner.old ≡ [] → P.faults partner.new ≡ P.faults partner.old) }
     ensures run_fault { IfErr result (λ e. is_refusal e ≡ false) }
 {
     let start = partner.log_len();
@@ -125,6 +127,8 @@ pub fn run_jobs<P: Partner>(
     ensures run { IsValidRun sq cq jobs.items → RunSays P.log P.state partner.old partner.new jobs.items (rounded_up sq) idle result }
     ensures cause { HasCause is_partner_fault (P.faults partner.old) (P.faults partner.new) result }
     ensures unplanned { IfSome (P.state partner.old) (λ _. P.plan partner.old ≡ [] → IfErr result (λ e. is_partner_fault e ≡ false)) }
+    ensures plan { P.plan partner.old ≡ [] → P.plan partner.new ≡ [] }
+    ensures calm { IfSome (P.state partner.old) (λ _. P.plan partner.old ≡ [] → P.faults partner.new ≡ P.faults partner.old) }
 {
     if !is_valid(sq, cq) {
         return Err(RunFault::BadSize);

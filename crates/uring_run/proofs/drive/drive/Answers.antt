@@ -1,12 +1,20 @@
-use Rattle.std.proofs.Common.{◌≡◌, ◌<◌, [], true, false, length, IfSome, refl, ap, sym, subst, ◌∙◌, arith}
+use Rattle.std.proofs.Common.{◌≡◌, ℕ, ◌<◌, List, [], Contains, true, false, length, Option, Some, None, IfSome, refl, ap, sym, subst, ◌∙◌, arith}
 use Rattle.std.proofs.lemmas.Result.{err_from_is_err_and}
-use Rattle.uring_model.specs.Partner.{IsIdle}
-use Rattle.uring_model.specs.Moves.{log_of}
+use Rattle.uring_model.specs.Partner.{PartnerState, IsServed, IsIdle}
+use Rattle.uring_model.specs.Moves.{Move, log_of}
 use Rattle.uring_partner.specs.Calls.{later_plan}
 use Rattle.uring_run.specs.Driven.{IsGivenUp}
 use Rattle.uring_run.proofs.Posts.{slots-length}
 use Rattle.uring_run.proofs.Running.{running_first, running_next, running_ran, next_faulted, next_count, stalled_end, whole_end, some_open, left_open, if_some, slots_stay, smaller, quiet_below, next_of}
 use Rattle.uring_run.proofs.drive.drive.Goals as goal
+
+-- with nothing planned at first, one more round leaves the count of faults as the rounds before it did
+still_calm : (o p : Option PartnerState) (ms : List Move) (before now : List ℕ) (first faults faults' : ℕ)
+    → IsServed o ms p → (before ≡ [] → now ≡ []) → IfSome o (λ _. before ≡ [] → faults ≡ first) → IfSome p (λ _. ¬ Contains now 1 → faults' ≡ faults)
+    → IfSome o (λ _. before ≡ [] → faults' ≡ first)
+still_calm None p ms before now first faults faults' served empty calm counted = tt
+still_calm (Some a) None ms before now first faults faults' served empty calm counted = absurd (served tt)
+still_calm (Some a) (Some b) ms before now first faults faults' served empty calm counted = λ e. counted (λ has. let h = subst (λ l. Contains l 1) (empty e) has in absurd (omega (arith, h.1))) ∙ calm e
 
 pub rounds-init : goal.rounds-init
 rounds-init g c =
@@ -20,6 +28,7 @@ rounds-init g c =
       omega (arith, count, slots.1),
       omega arith,
       λ p. p,
+      if_some (g.P.Partner.state c.args.partner.now) (λ _. g.P.Partner.plan c.args.partner.now ≡ [] → g.P.Counts.faults c.args.partner.now ≡ g.P.Counts.faults c.args.partner.now) (λ _ _ _. refl),
     )
 
 pub returns-in_err-fin-clause-run : goal.returns-in_err-fin-clause-run
@@ -30,6 +39,11 @@ returns-in_err-fin-clause-run g c =
     let x = next_of _ _ _ _ _ _ _ _ _ _ _ _ _ _ _ _ c.args.todo.now.items _ _ _ _ s.0 d.round g.R.Rings.keeps d.inside (some_open _ _ c.is_whole.ensures.1 c.rounds-test.true) s.1 in
     let n = next_faulted _ _ _ _ _ _ _ _ _ _ _ _ _ _ _ _ c.args.todo.now.items _ _ _ _ x in
     (n.0, rw p.1 (subst (λ e. IsGivenUp c.args.todo.now.items c.args.idle (log_of n.0.moves) e) (sym p.2) n.1))
+
+pub returns-in_err-fin-clause-calm : goal.returns-in_err-fin-clause-calm
+returns-in_err-fin-clause-calm g c =
+    let s = c.rounds.invariant in
+    still_calm _ _ _ _ _ _ _ _ s.0.states s.4 s.5 c.in_err-fin.ensures.counted
 
 pub returns-then-quiet-idle-clause-run : goal.returns-then-quiet-idle-clause-run
 returns-then-quiet-idle-clause-run g c =
@@ -68,6 +82,7 @@ rounds-preserved g c =
       omega (arith, before, after, s.2, d.inside),
       omega (arith, s.3, d.cause.later),
       λ p. d.plan ∙ ap later_plan (s.4 p),
+      still_calm _ _ _ _ _ _ _ _ s.0.states s.4 s.5 d.counted,
     )
 
 pub returns-clause-run : goal.returns-clause-run

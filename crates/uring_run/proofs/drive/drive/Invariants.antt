@@ -1,4 +1,4 @@
-use Rattle.std.proofs.Common.{◌≡◌, ◌+◌, ◌-◌, ◌*◌, ◌<◌, ◌≤◌, [], length}
+use Rattle.std.proofs.Common.{◌≡◌, ◌+◌, ◌-◌, ◌*◌, ◌<◌, ◌≤◌, [], length, IfSome}
 use Rattle.uring_run.specs.Entries.{all_taken}
 use Rattle.uring_run.specs.Slots.{count_open}
 use Rattle.uring_run.proofs.Running.{Running}
@@ -12,6 +12,7 @@ invariant-rounds g l =
     × (l.table.started + length l.todo.items ≤ length l.table.slots.items)
     × (g.P.Counts.faults l.initial.partner ≤ g.P.Counts.faults l.partner)
     × (g.P.Partner.plan l.initial.partner ≡ [] → g.P.Partner.plan l.partner ≡ [])
+    × IfSome (g.P.Partner.state l.initial.partner) (λ _. g.P.Partner.plan l.initial.partner ≡ [] → g.P.Counts.faults l.partner ≡ g.P.Counts.faults l.initial.partner)
 
 abbrev pub decreases-rounds : goal.decreases-rounds
 decreases-rounds g l = count_open l.table.slots.items * (l.fn.idle + 1) + (l.fn.idle - l.quiet)
