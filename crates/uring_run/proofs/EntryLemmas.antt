@@ -1,13 +1,12 @@
 -- The offers of jobs.
-use Rattle.std.proofs.Common.{◌≡◌, ℕ, zero, suc, ◌+◌, ◌<◌, ◌≤◌, Bool, true, false, ◌&&◌, cond, nat_le, List, [], ◌∷◌, ◌++◌, length, drop, Some, None, refl, ap, sym, subst, ◌∙◌, arith, append_assoc, slice_get, get_or, ◌⊎◌, inl, inr}
+use Rattle.std.proofs.Common.{◌≡◌, ℕ, zero, suc, ◌+◌, ◌<◌, ◌≤◌, Bool, true, false, ◌&&◌, cond, nat_le, List, [], ◌∷◌, length, drop, Some, None, refl, ap, sym, subst, ◌∙◌, arith, slice_get, get_or, ◌⊎◌, inl, inr}
 use Rattle.std.proofs.lemmas.Option.{same_Some}
 use Rattle.std.proofs.lemmas.Bool.Decides.{nat_tests}
 use Rattle.uring_model.specs.declared.jobs.Job.{Job}
 use Rattle.uring_model.specs.declared.jobs.JobKind.{JobKind}
 use Rattle.uring_model.specs.declared.jobs.JobKind.TheVariants.{Nop, Read, Write, Fsync, Ftruncate, Cancel}
-use Rattle.uring_run.specs.declared.entries.Offer.{Offer}
 use Rattle.uring_model.specs.Jobs.{asked, buf_lent, is_valid_job, is_valid_at}
-use Rattle.uring_run.specs.Entries.{offer_of, unlinked_if, offers_from, AllValid, IsInRange, AllInRange, first_bad}
+use Rattle.uring_run.specs.Entries.{offers_from, AllValid, IsInRange, AllInRange, first_bad}
 
 and_first : (a b : Bool) → (a && b) ≡ true → a ≡ true
 and_first true b e = refl
@@ -40,24 +39,6 @@ bad_next n job jobs e = rw e refl
 
 pub bad_here : (n : ℕ) (job : Job) (jobs : List Job) → is_valid_job (asked job) ≡ false → first_bad n (job ∷ jobs) ≡ Some n
 bad_here n job jobs e = rw e refl
-
--- the entry of the job in front
-offers_next : (last : Bool) (n : ℕ) (job : Job) (rest : List Job) → (last ≡ true → rest ≡ []) → (last ≡ false → rest ≡ [] → ⊥) → offers_from n (job ∷ rest) ≡ offer_of n (unlinked_if last job) ∷ offers_from (n + 1) rest
-offers_next true n job [] p q = refl
-offers_next true n job (x ∷ xs) p q = let h : x ∷ xs ≡ [] = p refl in cc
-offers_next false n job [] p q = absurd (q refl refl)
-offers_next false n job (x ∷ xs) p q = refl
-
-pub offers_step : (last : Bool) (n : ℕ) (job : Job) (left left' jobs : List Job) (offers offers' : List Offer) (t : Offer)
-    → offers ++ offers_from n left ≡ offers_from 0 jobs → left ≡ job ∷ left' → (last ≡ true → left' ≡ []) → (last ≡ false → left' ≡ [] → ⊥) → t ≡ offer_of n (unlinked_if last job) → offers' ≡ offers ++ t ∷ []
-    → offers' ++ offers_from (n + 1) left' ≡ offers_from 0 jobs
-offers_step last n job left left' jobs offers offers' t so_far front p q is more =
-    ap (λ l. l ++ offers_from (n + 1) left') more
-    ∙ append_assoc offers (t ∷ []) (offers_from (n + 1) left')
-    ∙ ap (λ x. offers ++ x ∷ offers_from (n + 1) left') is
-    ∙ ap (λ l. offers ++ l) (sym (offers_next last n job left' p q))
-    ∙ ap (λ l. offers ++ offers_from n l) (sym front)
-    ∙ so_far
 
 -- behind the end no job is bad
 pub past_end : (n i : ℕ) (jobs : List Job) → length jobs ≤ i → first_bad n (drop i jobs) ≡ None

@@ -12,11 +12,10 @@ ghost use Rattle.uring_run.specs.Rounds.{IsCalm, is_partner_fault, is_stall};
 ghost use Rattle.uring_run.specs.Driven.{Driven, IsGivenUp};
 ghost use Rattle.uring_run.specs.Slots.{count_open, slots_from};
 
-use crate::entries::Offer;
+use crate::offers::Offers;
 use crate::round::round;
 use crate::table::Table;
 use std::alloc::Global;
-use std::collections::VecDeque;
 use uring_model::RunFault;
 use uring_partner::Partner;
 use uring_ring::{PartnerSide, UserEnds};
@@ -36,18 +35,18 @@ pub fn drive<R: UserEnds + PartnerSide, P: Partner>(
     idle: u32,
     ring: &mut R,
     partner: &mut P,
-    todo: &mut VecDeque<Offer>,
+    todo: &mut Offers,
     table: &mut Table,
 ) -> Result<(), RunFault>
     requires idle { 0 < idle }
     requires empty { (l : Lists) × (R.lists ring.old ≡ Some l) × IsCalm l (R.room ring.old) × (l.published ≡ []) }
     requires holds { (0 < R.entries_fit ring.old) × (0 < R.completions_fit ring.old) }
-    requires slots { (table.old.slots.items ≡ slots_from 0 todo.old.items []) × (table.old.started ≡ 0) }
-    ensures run { (r : Driven P.log P.state partner.old partner.new todo.old.items (R.entries_fit ring.old) idle)
+    requires slots { (table.old.slots.items ≡ slots_from 0 todo.old []) × (table.old.started ≡ 0) }
+    ensures run { (r : Driven P.log P.state partner.old partner.new todo.old (R.entries_fit ring.old) idle)
         × MatchResult result
-        (λ _. (count_open table.new.slots.items ≡ 0) × (table.new.slots.items ≡ slots_from 0 todo.old.items (posted r.moves)) × (first_strange (lends_in todo.old.items) nothing_seen (log_of r.moves) ≡ None)
-        × ((a : PartnerState) → P.state partner.old ≡ Some a → IsIdle a → turns r.moves ≤ length todo.old.items))
-        (λ e. IsGivenUp todo.old.items idle (log_of r.moves) e) }
+        (λ _. (count_open table.new.slots.items ≡ 0) × (table.new.slots.items ≡ slots_from 0 todo.old (posted r.moves)) × (first_strange (lends_in todo.old) nothing_seen (log_of r.moves) ≡ None)
+        × ((a : PartnerState) → P.state partner.old ≡ Some a → IsIdle a → turns r.moves ≤ length todo.old))
+        (λ e. IsGivenUp todo.old idle (log_of r.moves) e) }
     ensures cause { HasCause is_partner_fault (P.faults partner.old) (P.faults partner.new) result }
     ensures unplanned { IfSome (P.state partner.old) (λ _. P.plan partner.old ≡ [] → IfErr result (λ e. is_partner_fault e ≡ false)) }
     ensures plan { P.plan partner.old ≡ [] → P.plan partner.new ≡ [] }

@@ -1,13 +1,11 @@
 //! The entries of the jobs.
 
-ghost use Rattle.std.specs.Prelude.{◌≡◌, ◌≤◌, ◌<◌, ◌^◌, IfOk, IfNone, length, true, Some};
+ghost use Rattle.std.specs.Prelude.{◌≡◌, ◌≤◌, ◌<◌, ◌^◌, IfNone, length, true, Some};
 ghost use Rattle.uring_model.specs.Jobs.{asked, buf_lent, is_valid_job, is_valid_at};
 ghost use Rattle.std.specs.Int.{w32, cast_signed};
 ghost use Rattle.uring_entry.specs.Words.{blank};
-ghost use Rattle.uring_run.specs.Entries.{words_of, loan_of, offer_of, offers_from, AllValid, IsInRange, AllInRange, first_bad, unlinked_if, with_drain, with_link};
+ghost use Rattle.uring_run.specs.Entries.{words_of, loan_of, offer_of, AllValid, IsInRange, AllInRange, first_bad, unlinked_if, with_drain, with_link};
 
-use std::alloc::{AllocError, Global};
-use std::collections::VecDeque;
 use uring_entry::squeue::{Entry, Flags};
 use uring_entry::{Buf, Loan, first_nop, first_read, first_write};
 use uring_model::{Job, JobKind, Link};
@@ -140,7 +138,8 @@ fn marked(words: Entry, drain: bool, link: Link) -> Entry
     }
 }
 
-fn unlinked_if(is_last: bool, job: Job) -> Job
+/// The job; the last one has no link.
+pub fn unlinked_if(is_last: bool, job: Job) -> Job
     ensures { result ≡ unlinked_if is_last job }
 {
     let link = if is_last { Link::Free } else { job.link };
@@ -148,7 +147,7 @@ fn unlinked_if(is_last: bool, job: Job) -> Job
 }
 
 /// The entry of job `number`, with its loan.
-fn offer_of(number: u64, job: Job) -> Offer
+pub fn offer_of(number: u64, job: Job) -> Offer
     requires { length (buf_lent job.kind) < 2 ^ 32 }
     ensures { result ≡ offer_of number job }
 {
@@ -157,20 +156,4 @@ fn offer_of(number: u64, job: Job) -> Offer
         entry: marked(words, job.drain, job.link).user_data(number),
         loan,
     }
-}
-
-/// The entries of all jobs, in their order.
-pub fn offers_of(alloc: Global, jobs: Vec<Job>) -> Result<VecDeque<Offer>, AllocError>
-    requires { AllValid jobs.items }
-    ensures { IfOk result (λ offers. offers.items ≡ offers_from 0 jobs.items) }
-{
-    let mut offers = VecDeque::with_capacity(alloc, jobs.len())?;
-    let mut left = VecDeque::from_vec(jobs);
-    let mut number: u64 = 0;
-    while let Some(job) = left.pop_front() {
-        let is_last = left.is_empty();
-        offers.push_back(offer_of(number, unlinked_if(is_last, job)))?;
-        number += 1;
-    }
-    Ok(offers)
 }

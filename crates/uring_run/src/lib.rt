@@ -4,6 +4,7 @@
 
 mod drive;
 mod entries;
+mod offers;
 mod round;
 mod run;
 mod slot;

@@ -10,23 +10,22 @@ ghost use Rattle.uring_partner.specs.Calls.{later_plan};
 ghost use Rattle.uring_run.specs.Entries.{all_taken};
 ghost use Rattle.uring_run.specs.Slots.{land_all, stranger_among, any_final};
 
-use crate::entries::Offer;
+use crate::offers::Offers;
 use crate::table::Table;
 use std::alloc::Global;
-use std::collections::VecDeque;
 use uring_model::RunFault;
 use uring_partner::{EnterCall, Partner, PartnerError};
 use uring_ring::{PartnerSide, UserEnds};
 
 /// Offers entries until the ring is full or none is left.
-fn offer_some<R: UserEnds>(ring: &mut R, todo: &mut VecDeque<Offer>, table: &mut Table)
-    requires { table.old.started + length todo.old.items ≤ vec_len table.old.slots }
-    ensures offered { (ts : List Taken) × (all_taken todo.old.items ≡ ts ++ all_taken todo.new.items)
+fn offer_some<R: UserEnds>(ring: &mut R, todo: &mut Offers, table: &mut Table)
+    requires { table.old.started + length todo.old ≤ vec_len table.old.slots }
+    ensures offered { (ts : List Taken) × (all_taken todo.old ≡ ts ++ all_taken todo.new)
         × Becomes (R.lists ring.old) (pushed_more ts) (R.lists ring.new)
         × (R.room ring.old ≡ R.room ring.new + length ts)
         × (table.new.started ≡ table.old.started + length ts) }
-    ensures full { (todo.new.items ≡ []) ⊎ (R.room ring.new ≡ 0) }
-    ensures inside { table.new.started + length todo.new.items ≡ table.old.started + length todo.old.items }
+    ensures full { (todo.new ≡ []) ⊎ (R.room ring.new ≡ 0) }
+    ensures inside { table.new.started + length todo.new ≡ table.old.started + length todo.old }
     ensures slots { table.new.slots.items ≡ table.old.slots.items }
     ensures waiting { R.waiting ring.new ≡ R.waiting ring.old }
 {
@@ -73,14 +72,14 @@ pub fn round<R: UserEnds + PartnerSide, P: Partner>(
     alloc: Global,
     ring: &mut R,
     partner: &mut P,
-    todo: &mut VecDeque<Offer>,
+    todo: &mut Offers,
     table: &mut Table,
 ) -> Result<bool, RunFault>
     requires calm { (l : Lists) × (R.lists ring.old ≡ Some l) × IsCalm l (R.room ring.old) }
-    requires inside { table.old.started + length todo.old.items ≤ vec_len table.old.slots }
-    ensures round { Round P.log P.state R.lists R.kept partner.old partner.new ring.old ring.new (all_taken todo.old.items) (all_taken todo.new.items) table.new.started table.old.slots.items table.new.slots.items result }
+    requires inside { table.old.started + length todo.old ≤ vec_len table.old.slots }
+    ensures round { Round P.log P.state R.lists R.kept partner.old partner.new ring.old ring.new (all_taken todo.old) (all_taken todo.new) table.new.started table.old.slots.items table.new.slots.items result }
     ensures calm { IfOk result (λ _. (l : Lists) × (R.lists ring.new ≡ Some l) × IsCalm l (R.room ring.new)) }
-    ensures inside { table.new.started + length todo.new.items ≡ table.old.started + length todo.old.items }
+    ensures inside { table.new.started + length todo.new ≡ table.old.started + length todo.old }
     ensures cause { HasCause is_partner_fault (P.faults partner.old) (P.faults partner.new) result }
     ensures planned { IfSome (P.state partner.old) (λ _. IfErr result (λ e. IsTrue (is_partner_fault e) → Contains (P.plan partner.old) 1)) }
     ensures counted { IfSome (P.state partner.old) (λ _. ¬ Contains (P.plan partner.old) 1 → P.faults partner.new ≡ P.faults partner.old) }

@@ -13,7 +13,8 @@ ghost use Rattle.uring_run.specs.declared.slot.Slot.{Slot};
 ghost use Rattle.uring_run.specs.Runs.{RunSays, IsValidRun, refusal};
 
 use crate::drive::drive;
-use crate::entries::{first_bad_job, offers_of};
+use crate::entries::first_bad_job;
+use crate::offers::Offers;
 use crate::slot::Slot;
 use crate::table::Table;
 use std::alloc::{AllocError, Global};
@@ -30,8 +31,9 @@ fn journal_since<P: Partner>(
 ) -> Result<Vec<Event>, AllocError>
     ensures { IfOk result (λ journal. IfSome (P.log partner.now) (λ log. journal.items ≡ map event_of (drop start log))) }
 {
-    let mut journal = Vec::new(alloc);
-    for place in start..partner.log_len() {
+    let end = partner.log_len();
+    let mut journal = Vec::with_capacity(alloc, end.saturating_sub(start))?;
+    for place in start..end {
         journal.push(partner.log_event(place))?;
     }
     Ok(journal)
@@ -83,9 +85,7 @@ fn run_over<R: UserEnds + PartnerSide + Drop, P: Partner>(
     let Ok(mut table) = Table::new(alloc, &jobs) else {
         return Err(RunFault::NoMemory);
     };
-    let Ok(mut todo) = offers_of(alloc, jobs) else {
-        return Err(RunFault::NoMemory);
-    };
+    let mut todo = Offers::new(jobs);
     drive(alloc, idle, &mut ring, partner, &mut todo, &mut table)?;
     report_of(alloc, table, partner, start)
 }

@@ -7,9 +7,9 @@ use Rattle.uring_run.proofs.drive.drive.Given as goal
 -- the run so far
 abbrev pub invariant-rounds : goal.invariant-rounds
 invariant-rounds g l =
-    (w : Running g.P.Partner.log g.P.Partner.state g.R.Rings.lists l.initial.partner l.partner l.ring (g.R.UserEnds.room l.ring) (all_taken l.todo.items) l.table.started l.table.slots.items l.initial.todo.items (g.R.UserEnds.entries_fit l.initial.ring) l.fn.idle l.quiet)
+    (w : Running g.P.Partner.log g.P.Partner.state g.R.Rings.lists l.initial.partner l.partner l.ring (g.R.UserEnds.room l.ring) (all_taken l.todo) l.table.started l.table.slots.items l.initial.todo (g.R.UserEnds.entries_fit l.initial.ring) l.fn.idle l.quiet)
     × (l.quiet < l.fn.idle)
-    × (l.table.started + length l.todo.items ≤ length l.table.slots.items)
+    × (l.table.started + length l.todo ≤ length l.table.slots.items)
     × (g.P.Counts.faults l.initial.partner ≤ g.P.Counts.faults l.partner)
     × (g.P.Partner.plan l.initial.partner ≡ [] → g.P.Partner.plan l.partner ≡ [])
     × IfSome (g.P.Partner.state l.initial.partner) (λ _. g.P.Partner.plan l.initial.partner ≡ [] → g.P.Counts.faults l.partner ≡ g.P.Counts.faults l.initial.partner)

@@ -8,8 +8,8 @@ use Rattle.uring_run.proofs.round.offer_some.Given as goal
 -- what was offered so far
 abbrev pub invariant-loop-todo : goal.invariant-loop-todo
 invariant-loop-todo g l =
-    (ts : List Taken) × (all_taken l.initial.todo.items ≡ ts ++ all_taken l.todo.items)
-    × (l.table.started + length l.todo.items ≡ l.initial.table.started + length l.initial.todo.items)
+    (ts : List Taken) × (all_taken l.initial.todo ≡ ts ++ all_taken l.todo)
+    × (l.table.started + length l.todo ≡ l.initial.table.started + length l.initial.todo)
     × Becomes (g.R.Rings.lists l.initial.ring) (pushed_more ts) (g.R.Rings.lists l.ring)
     × (g.R.UserEnds.room l.initial.ring ≡ g.R.UserEnds.room l.ring + length ts)
     × (l.table.started ≡ l.initial.table.started + length ts)

@@ -1,0 +1,53 @@
+//! What is still to be offered.
+
+ghost use Rattle.std.specs.Prelude.{◌≡◌, ◌∷◌, [], MatchOption};
+ghost use Rattle.uring_run.specs.Entries.{AllValid, offers_from};
+
+use crate::entries::{Offer, offer_of, unlinked_if};
+use std::collections::VecDeque;
+use std::marker::Model;
+use uring_model::Job;
+
+/// The jobs that are still to be offered, seen as the entries that they become. An entry is made
+/// when its turn comes, so that a run never holds the entries of all jobs.
+#[derive(Drop)]
+pub struct Offers {
+    jobs: VecDeque<Job>,
+    // The number of the job in front.
+    number: u64,
+}
+
+impl Model for Offers {
+    ghost use Rattle.std.specs.Prelude.{◌+◌, ◌<◌, ◌^◌, List, length};
+    ghost use Rattle.uring_run.specs.Entries.{AllValid, offers_from};
+    ghost use Rattle.uring_run.specs.declared.entries.Offer.{Offer};
+
+    ghost Value = { List Offer };
+
+    ghost view = { λ offers. offers_from offers.number offers.jobs.items };
+
+    ghost invariant = { λ offers. AllValid offers.jobs.items × (offers.number + length offers.jobs.items < 2 ^ 64) };
+}
+
+impl Offers {
+    /// The entries of all jobs, in their order.
+    pub fn new(jobs: Vec<Job>) -> Offers
+        requires { AllValid jobs.items }
+        ensures { result ≡ offers_from 0 jobs.items }
+    {
+        Offers {
+            jobs: VecDeque::from_vec(jobs),
+            number: 0,
+        }
+    }
+
+    /// Takes the entry in front, if one is left.
+    pub fn pop_front(&mut self) -> Option<Offer>
+        ensures { MatchOption result ((self.old ≡ []) × (self.new ≡ [])) (λ offer. self.old ≡ offer ∷ self.new) }
+    {
+        let job = self.jobs.pop_front()?;
+        let number = self.number;
+        self.number += 1;
+        Some(offer_of(number, unlinked_if(self.jobs.is_empty(), job)))
+    }
+}
