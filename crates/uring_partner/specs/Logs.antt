@@ -1,11 +1,13 @@
 -- What the parts of a turn do to a log, and what a hostile partner tells.
-use Rattle.std.specs.Prelude.{◌≡◌, List, ◌++◌, Option, Some, None}
+use Rattle.std.specs.Prelude.{◌≡◌, List, ◌++◌, drop, Option, Some, None}
+use Rattle.uring_entry.specs.declared.buffer.Loan.{Loan}
 use Rattle.uring_entry.specs.declared.events.Taken.{Taken}
 use Rattle.uring_entry.specs.declared.events.Completion.{Completion}
 use Rattle.uring_entry.specs.declared.events.LogEvent.{LogEvent}
 use Rattle.uring_model.specs.Moves.{Move, took, posted, log_of}
 use Rattle.uring_model.specs.Partner.{PartnerState}
 use Rattle.uring_partner.specs.declared.hostile.HostilePartner.{HostilePartner}
+use Rattle.uring_partner.specs.declared.hostile.Scripted.{Scripted}
 
 -- with these moves the side and the log went on
 pub record LogsBy {Q : Type 0} (moved : Q → List Taken → List Completion → Q → Type 0) (before after : List LogEvent) (from to : Q) (ms : List Move) : Type 0 where
@@ -18,3 +20,11 @@ hostile_log p = Some p.log.items
 -- it tells no files
 abbrev pub no_state : HostilePartner → Option PartnerState
 no_state p = None
+
+-- the items of its script that aren't used up
+abbrev pub script_left : HostilePartner → List Scripted
+script_left p = drop p.used p.script.items
+
+-- the loans that it took and hasn't posted back
+abbrev pub loans_held : HostilePartner → List Loan
+loans_held p = p.held.items

@@ -53,12 +53,14 @@ impl HostilePartner {
     ghost use Rattle.uring_entry.specs.declared.events.Taken.{Taken};
     ghost use Rattle.uring_entry.specs.declared.events.Completion.{Completion};
     ghost use Rattle.uring_model.specs.Moves.{Move, Turned, Took, Posted, took};
-    ghost use Rattle.uring_partner.specs.Logs.{LogsBy, hostile_log, no_state};
+    ghost use Rattle.uring_partner.specs.Logs.{LogsBy, hostile_log, loans_held, no_state, script_left};
     ghost use Rattle.uring_partner.specs.Calls.{Enters, IsCall};
 
     /// A partner with this script, which holds nothing and has no events.
     pub fn new(alloc: Global, script: Vec<Scripted>) -> HostilePartner
-        ensures { hostile_log result ≡ Some [] }
+        ensures script { script_left result ≡ script.items }
+        ensures held { loans_held result ≡ [] }
+        ensures log { hostile_log result ≡ Some [] }
     {
         HostilePartner {
             script,
