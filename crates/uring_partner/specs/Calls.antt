@@ -1,10 +1,10 @@
 -- What one call of a partner does.
-use Rattle.std.specs.Prelude.{◌≡◌, ℕ, ◌-◌, ◌≤◌, ◌⊎◌, min, Bool, true, false, nat_lt, List, [], ◌∷◌, ◌++◌, length, map, filter, Option, Some, None, IfSome}
+use Rattle.std.specs.Prelude.{◌≡◌, ℕ, ◌-◌, ◌≤◌, ◌⊎◌, min, Bool, true, false, nat_lt, List, [], ◌∷◌, length, map, filter, Option, Some, None, IfSome}
 use Rattle.std.specs.FinMap.{insert}
 use Rattle.uring_entry.specs.declared.events.Taken.{Taken}
 use Rattle.uring_entry.specs.declared.events.Completion.{Completion}
 use Rattle.uring_entry.specs.declared.events.LogEvent.{LogEvent}
-use Rattle.uring_model.specs.Moves.{Move, Turned, Took, Posted, took, posted, IsLogged}
+use Rattle.uring_model.specs.Moves.{Move, Turned, took, posted, IsLogged}
 use Rattle.uring_model.specs.Partner.{PartnerState, IsServed}
 use Rattle.uring_model.specs.Progress.{turns, moves_of_turn}
 use Rattle.uring_model.specs.Turn.{turn}
