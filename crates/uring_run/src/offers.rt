@@ -9,7 +9,7 @@ use std::marker::Model;
 use uring_model::Job;
 
 /// The jobs that are still to be offered, seen as the entries that they become. An entry is made
-/// when its turn comes, so that a run never holds the entries of all jobs.
+/// when its turn comes, so no list of all entries is built before the run.
 #[derive(Drop)]
 pub struct Offers {
     jobs: VecDeque<Job>,
