@@ -1,10 +1,14 @@
 -- Bits of flag words.
 use Rattle.std.specs.Prelude.{ℕ, ◌/◌, ◌%◌, Bool, nat_eq}
 use Rattle.uring_entry.specs.declared.flags.Flags.{Flags}
+use Rattle.uring_entry.specs.declared.fsync_flags.FsyncFlags.{FsyncFlags}
 
 -- the bits of a set of flags
 abbrev pub bits_in : Flags → ℕ
 bits_in flags = flags.0
+
+abbrev pub fsync_bits : FsyncFlags → ℕ
+fsync_bits flags = flags.0
 
 -- whether the bit of this value, a power of two, is set
 abbrev pub has_bit : ℕ → ℕ → Bool

@@ -1,5 +1,6 @@
 pub mod Causes
 pub mod Words
+pub mod Targets
 pub mod FlagBits
 pub mod Completions
 pub mod Loans

@@ -1,6 +1,6 @@
 -- The words of a submission entry.
-use Rattle.std.specs.Prelude.{ℕ, pos, negsuc}
-use Rattle.std.specs.Int.{w32, cast_signed}
+use Rattle.std.specs.Prelude.{ℕ, ℤ, pos, negsuc}
+use Rattle.std.specs.Int.{w32, cast_unsigned}
 use Rattle.uring_entry.specs.declared.squeue.Entry.{Entry}
 
 -- the entry of an operation, each other word 0
@@ -22,15 +22,10 @@ blank code = record {
   fourth = 0;
 }
 
-abbrev pub nop_words : Entry
-nop_words = record (blank 0) { fd = negsuc 0 }
+-- the descriptor word of an operation that acts on nothing
+abbrev pub no_fd : ℤ
+no_fd = negsuc 0
 
--- an operation on a registered file: its index, the mark FIXED_FILE, and the loan's number and length
-abbrev pub on_file : ℕ → ℕ → ℕ → ℕ → ℕ → Entry
-on_file code file buf len offset = record (blank code) { fd = cast_signed w32 file; flags = 1; off = offset; addr = buf; len = len }
-
-abbrev pub read_words : ℕ → ℕ → ℕ → ℕ → Entry
-read_words file buf len offset = on_file 22 file buf len offset
-
-abbrev pub write_words : ℕ → ℕ → ℕ → ℕ → Entry
-write_words file buf len offset = on_file 23 file buf len offset
+-- the 32 bits of a signed number
+abbrev pub bits_of : ℤ → ℕ
+bits_of n = cast_unsigned w32 n

@@ -5,14 +5,14 @@
 mod buffer;
 pub mod cqueue;
 mod events;
-mod first;
 mod flags;
+mod fsync_flags;
 mod lists;
 pub mod squeue;
+pub mod types;
 
 pub use buffer::{Buf, Loan};
 pub use events::{Completion, Event, LogEvent, Taken};
-pub use first::{first_nop, first_read, first_write};
 pub use lists::Nums;
 
 #[cfg(test)]

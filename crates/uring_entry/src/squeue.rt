@@ -3,8 +3,10 @@
 ghost use Rattle.std.specs.Prelude.{◌≡◌, bit_or};
 ghost use Rattle.uring_entry.specs.Words.{blank};
 ghost use Rattle.uring_entry.specs.FlagBits.{bits_in};
+ghost use Rattle.uring_entry.specs.Targets.{on};
 
 pub use crate::flags::Flags;
+use crate::types::Target;
 use bitflags::Flags as _;
 
 /// A submission entry of 64 bytes: its fourteen words, under the names of the fields that they
@@ -48,6 +50,21 @@ impl Entry {
             third: 0,
             fourth: 0,
         }
+    }
+
+    /// Puts the entry on a target, as io-uring's builders do: `FIXED_FILE` says that the
+    /// descriptor word holds the index of a registered file.
+    pub fn on(mut self, target: Target) -> Entry
+        ensures { result ≡ on target self }
+    {
+        match target {
+            Target::Fd(fd) => self.fd = fd,
+            Target::Fixed(index) => {
+                self.fd = index.cast_signed();
+                self.flags |= 1;
+            }
+        }
+        self
     }
 
     /// Adds flags to those that are set.

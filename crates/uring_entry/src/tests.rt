@@ -1,5 +1,7 @@
-use crate::squeue::Flags;
-use crate::{Buf, Loan, Nums, cqueue, first_nop, first_read, first_write};
+use crate::squeue::{Entry, Flags};
+use crate::types::{Fd, Fixed, FsyncFlags, Target, UseTarget};
+use crate::{Buf, Loan, Nums, cqueue};
+use bitflags::Flags as _;
 use std::test::Fail;
 
 /// Each call that can find no memory answers otherwise where there is memory.
@@ -21,21 +23,46 @@ fn each_call(rt: HostRuntime) -> Result<(), Fail> {
     Ok(())
 }
 
-/// A Read of the registered file 5 into loan 7, of 1024 bytes.
+/// An entry on the registered file 5, with flags and without.
 #[test]
-fn words_of_a_read(rt: HostRuntime) {
-    let entry = first_read(5, 7, 1024, 0).user_data(0x42);
+fn flags_of_an_entry(rt: HostRuntime) {
+    let entry = Entry::blank(22).on(Fixed(5).target()).user_data(0x42);
     assert_eq!(rt; entry.get_opcode(), 22);
     assert_eq!(rt; entry.word_fd(), 5);
-    assert_eq!(rt; entry.word_addr(), 7);
-    assert_eq!(rt; entry.word_len(), 1024);
     assert_eq!(rt; entry.get_user_data(), 0x42);
     assert_eq!(rt; entry.flag_bits(), 1);
     let linked = entry.flags(Flags::IO_LINK).flags(Flags::IO_DRAIN);
     assert_eq!(rt; linked.flag_bits(), 7);
     assert_eq!(rt; linked.clear_flags().flag_bits(), 0);
-    assert_eq!(rt; first_nop().word_fd(), -1);
-    assert_eq!(rt; first_write(u32::MAX, 0, 1, 9).word_fd(), -1);
+}
+
+/// Each kind of target: a raw descriptor sets no flag, and an index is written as its 32 bits.
+#[test]
+fn targets(rt: HostRuntime) {
+    let raw = Entry::blank(0).on(Target::from(Fd(-2)));
+    assert_eq!(rt; raw.word_fd(), -2);
+    assert_eq!(rt; raw.flag_bits(), 0);
+    let registered = Entry::blank(0).on(Target::from(Fixed(u32::MAX)).target());
+    assert_eq!(rt; registered.word_fd(), -1);
+    assert_eq!(rt; registered.flag_bits(), 1);
+    assert_eq!(rt; Entry::blank(0).on(Fd(7).target()).word_fd(), 7);
+}
+
+/// The flag types under the names and bits of the header.
+#[test]
+fn names_of_flags(rt: HostRuntime) {
+    assert_eq!(rt;
+        FsyncFlags::from_name("DATASYNC").map(|flags| flags.bits()),
+        Some(1)
+    );
+    assert_eq!(rt; FsyncFlags::all().bits(), 1);
+    assert_eq!(rt; (FsyncFlags::empty() | FsyncFlags::DATASYNC).bits(), 1);
+    assert_eq!(rt;
+        Flags::from_name("SKIP_SUCCESS").map(|flags| flags.bits()),
+        Some(64)
+    );
+    assert_eq!(rt; Flags::all().bits(), 127);
+    assert!(rt; Flags::IO_DRAIN < Flags::IO_LINK);
 }
 
 /// The bit of value 2 says that more are to come.

@@ -4,7 +4,9 @@ use Rattle.std.specs.FinMap as map
 use Rattle.uring_entry.specs.declared.squeue.Entry.{Entry}
 use Rattle.uring_entry.specs.declared.events.Taken.{Taken}
 use Rattle.uring_entry.specs.declared.events.Completion.{Completion}
-use Rattle.uring_entry.specs.Words.{blank, nop_words, on_file, read_words, write_words}
+use Rattle.uring_entry.specs.declared.types.Target.TheVariants.{Fixed}
+use Rattle.uring_entry.specs.Words.{blank, no_fd}
+use Rattle.uring_entry.specs.Targets.{on}
 use Rattle.uring_model.specs.declared.jobs.Link.TheVariants.{Free, Soft, Hard}
 use Rattle.uring_model.specs.Machine.{Files, Nop, Read, Write, Fsync, Ftruncate, Cancel, Refused, step}
 use Rattle.uring_model.specs.Partner.{op_of, job_of, idle}
@@ -17,19 +19,32 @@ plain e = record { entry = e; loan = None; big = replicate 64 0 }
 abbrev lent : Entry → Taken
 lent e = record { entry = e; loan = Some (record { number = 7; from = 1; buf = 9 ∷ 8 ∷ 7 ∷ [] }); big = replicate 64 0 }
 
-nop : job_of (plain nop_words) ≡ record { op = Nop; buf = []; drain = false; link = Free }
+abbrev nop_entry : Entry
+nop_entry = record (blank 0) { fd = no_fd }
+
+-- an operation on a registered file, with a loan's number and length, and an offset
+abbrev on_file : ℕ → ℕ → ℕ → ℕ → ℕ → Entry
+on_file code file buf len offset = on (Fixed file) (record (blank code) { off = offset; addr = buf; len = len })
+
+abbrev read_entry : ℕ → ℕ → ℕ → ℕ → Entry
+read_entry file buf len offset = on_file 22 file buf len offset
+
+abbrev write_entry : ℕ → ℕ → ℕ → ℕ → Entry
+write_entry file buf len offset = on_file 23 file buf len offset
+
+nop : job_of (plain nop_entry) ≡ record { op = Nop; buf = []; drain = false; link = Free }
 nop = refl
 
-read : job_of (lent (read_words 3 7 2 10)) ≡ record { op = Read 3 10; buf = 8 ∷ 7 ∷ []; drain = false; link = Free }
+read : job_of (lent (read_entry 3 7 2 10)) ≡ record { op = Read 3 10; buf = 8 ∷ 7 ∷ []; drain = false; link = Free }
 read = refl
 
-write : job_of (lent (write_words 3 7 2 10)) ≡ record { op = Write 3 10; buf = 8 ∷ 7 ∷ []; drain = false; link = Free }
+write : job_of (lent (write_entry 3 7 2 10)) ≡ record { op = Write 3 10; buf = 8 ∷ 7 ∷ []; drain = false; link = Free }
 write = refl
 
-read_without_loan : op_of (plain (read_words 3 7 2 10)) ≡ Refused 21
+read_without_loan : op_of (plain (read_entry 3 7 2 10)) ≡ Refused 21
 read_without_loan = refl
 
-write_without_loan : op_of (plain (write_words 3 7 2 10)) ≡ Refused 21
+write_without_loan : op_of (plain (write_entry 3 7 2 10)) ≡ Refused 21
 write_without_loan = refl
 
 -- the greatest file number is the word -1
@@ -51,11 +66,11 @@ cancel_by_flags = refl
 unknown : op_of (plain (blank 60)) ≡ Refused 94
 unknown = refl
 
-buffer_selection : op_of (lent (record (read_words 3 7 2 10) { flags = 33 })) ≡ Refused 94
+buffer_selection : op_of (lent (record (read_entry 3 7 2 10) { flags = 33 })) ≡ Refused 94
 buffer_selection = refl
 
 abbrev flagged : ℕ → Taken
-flagged flags = plain (record nop_words { flags = flags })
+flagged flags = plain (record nop_entry { flags = flags })
 
 drain : job_of (flagged 2) ≡ record { op = Nop; buf = []; drain = true; link = Free }
 drain = refl
@@ -75,7 +90,7 @@ other_flags = refl
 -- turns
 
 abbrev numbered : ℕ → ℕ → Taken
-numbered n flags = plain (record nop_words { user_data = n; flags = flags })
+numbered n flags = plain (record nop_entry { user_data = n; flags = flags })
 
 abbrev answers : ℕ → ℤ → Completion
 answers n r = record { user_data = n; result = r; flags = 0; big = 0 ∷ 0 ∷ []; loan = None }
@@ -134,6 +149,6 @@ unfolding step
 canceled_before = refl
 
 -- a short read lays its bytes behind the loan's place, and its front stays
-short_read : (files : Files) → map.get files 3 ≡ Some (1 ∷ []) → (turn (lent (read_words 3 7 2 0) ∷ []) 9 (idle files [])).posts ≡ record { user_data = 0; result = pos 1; flags = 0; big = 0 ∷ 0 ∷ []; loan = Some (record { number = 7; from = 1; buf = 9 ∷ 1 ∷ 7 ∷ [] }) } ∷ []
+short_read : (files : Files) → map.get files 3 ≡ Some (1 ∷ []) → (turn (lent (read_entry 3 7 2 0) ∷ []) 9 (idle files [])).posts ≡ record { user_data = 0; result = pos 1; flags = 0; big = 0 ∷ 0 ∷ []; loan = Some (record { number = 7; from = 1; buf = 9 ∷ 1 ∷ 7 ∷ [] }) } ∷ []
 unfolding step
 short_read files e = rw e refl

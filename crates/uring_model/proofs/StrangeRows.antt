@@ -3,7 +3,7 @@ use Rattle.std.specs.Prelude.{◌≡◌, ℕ, Bool, true, false, nat_eq, List, [
 use Rattle.uring_entry.specs.declared.buffer.Loan.{Loan}
 use Rattle.uring_entry.specs.declared.events.LogEvent.{LogEvent}
 use Rattle.uring_entry.specs.declared.events.LogEvent.TheVariants.{Turn, Take, Post}
-use Rattle.uring_entry.specs.Words.{nop_words}
+use Rattle.uring_entry.specs.Words.{blank}
 use Rattle.uring_model.specs.Strange.{first_strange, nothing_seen}
 
 -- job 1 alone lends a buffer
@@ -14,7 +14,7 @@ abbrev loan : ℕ → Option Loan
 loan number = Some (record { number = number; from = 0; buf = 5 ∷ [] })
 
 abbrev taken : ℕ → LogEvent
-taken job = Take job nop_words
+taken job = Take job (blank 0)
 
 abbrev final : ℕ → Option Loan → LogEvent
 final job l = Post job (pos 0) true l

@@ -3,11 +3,11 @@ use std::alloc::{AllocError, Global};
 use std::process::Abort;
 use std::test::Fail;
 use uring_entry::squeue::Entry;
-use uring_entry::{Buf, Completion, Loan, Taken, first_nop};
+use uring_entry::{Buf, Completion, Loan, Taken};
 
 /// The entry and the loan of a job.
 fn job(number: u64) -> Entry {
-    first_nop().user_data(number)
+    Entry::blank(0).user_data(number)
 }
 
 fn loan_of(alloc: Global, number: u64) -> Result<Option<Loan>, AllocError> {

@@ -1,10 +1,12 @@
 -- The entry and the loan that each job becomes.
-use Rattle.std.specs.Prelude.{◌≡◌, ℕ, zero, suc, ◌+◌, ◌<◌, ◌^◌, Bool, true, false, if◌then◌else◌, List, [], ◌∷◌, length, map, negsuc, bit_or, Option, Some, None, is_some}
-use Rattle.std.specs.Int.{w32, cast_signed}
+use Rattle.std.specs.Prelude.{◌≡◌, ℕ, zero, suc, ◌+◌, ◌<◌, ◌^◌, Bool, true, false, if◌then◌else◌, List, [], ◌∷◌, length, map, bit_or, Option, Some, None, is_some}
 use Rattle.uring_entry.specs.declared.squeue.Entry.{Entry}
 use Rattle.uring_entry.specs.declared.buffer.Loan.{Loan}
 use Rattle.uring_entry.specs.declared.events.Taken.{Taken}
-use Rattle.uring_entry.specs.Words.{blank, nop_words, read_words, write_words}
+use Rattle.uring_entry.specs.declared.types.Target.TheVariants.{Fixed}
+use Rattle.uring_entry.specs.Words.{blank, no_fd}
+use Rattle.uring_entry.specs.Targets.{on}
+use Rattle.uring_ops_file.specs.Rows.{new_nop, nop_words, new_read, read_words, new_write, write_words}
 use Rattle.uring_model.specs.declared.jobs.Link.{Link}
 use Rattle.uring_model.specs.declared.jobs.Link.TheVariants.{Free, Soft, Hard}
 use Rattle.uring_model.specs.declared.jobs.Job.{Job}
@@ -16,12 +18,12 @@ use Rattle.uring_run.specs.declared.entries.Offer.{Offer}
 
 -- the words of job j; a file is a registered one, and a read's or write's loan has the job's number
 abbrev pub words_of : ℕ → JobKind → Entry
-words_of j Nop = nop_words
-words_of j (Read file offset buf) = read_words file j (length buf) offset
-words_of j (Write file offset buf) = write_words file j (length buf) offset
-words_of j (Fsync file) = record (blank 3) { fd = cast_signed w32 file; flags = 1 }
-words_of j (Ftruncate file len) = record (blank 55) { fd = cast_signed w32 file; flags = 1; off = len }
-words_of j (Cancel job) = record (blank 14) { fd = negsuc 0; addr = job }
+words_of j Nop = nop_words new_nop
+words_of j (Read file offset buf) = read_words (record (new_read (Fixed file) j (length buf)) { offset = offset })
+words_of j (Write file offset buf) = write_words (record (new_write (Fixed file) j (length buf)) { offset = offset })
+words_of j (Fsync file) = on (Fixed file) (blank 3)
+words_of j (Ftruncate file len) = on (Fixed file) (record (blank 55) { off = len })
+words_of j (Cancel job) = record (blank 14) { fd = no_fd; addr = job }
 
 -- the flag IO_DRAIN for a drained job, and IO_LINK or IO_HARDLINK for a linked one
 abbrev pub with_drain : Bool → Entry → Entry

@@ -2,13 +2,16 @@
 
 ghost use Rattle.std.specs.Prelude.{◌≡◌, ◌≤◌, ◌<◌, ◌^◌, IfNone, length, true, Some};
 ghost use Rattle.uring_model.specs.Jobs.{asked, buf_lent, is_valid_job, is_valid_at};
-ghost use Rattle.std.specs.Int.{w32, cast_signed};
+ghost use Rattle.uring_entry.specs.declared.types.Target.TheVariants.{Fixed as registered};
 ghost use Rattle.uring_entry.specs.Words.{blank};
+ghost use Rattle.uring_entry.specs.Targets.{on};
 ghost use Rattle.uring_run.specs.Entries.{words_of, loan_of, offer_of, AllValid, IsInRange, AllInRange, first_bad, unlinked_if, with_drain, with_link};
 
 use uring_entry::squeue::{Entry, Flags};
-use uring_entry::{Buf, Loan, first_nop, first_read, first_write};
+use uring_entry::types::{Fixed, UseTarget};
+use uring_entry::{Buf, Loan};
 use uring_model::{Job, JobKind, Link};
+use uring_ops_file::{Nop, Read, Write};
 
 /// An entry that is to be offered, with its loan.
 #[derive(Drop)]
@@ -80,14 +83,14 @@ fn words_and_loan(number: u64, kind: JobKind) -> (Entry, Option<Loan>)
     ensures loan { result.1 ≡ loan_of number kind }
 {
     match kind {
-        JobKind::Nop => (first_nop(), None),
+        JobKind::Nop => (Nop::new().build(), None),
         JobKind::Read { file, offset, buf } => {
-            let words = first_read(file, number, buf.len() as u32, offset);
-            (words, lent(number, buf))
+            let read = Read::new(Fixed(file), number, buf.len() as u32);
+            (read.offset(offset).build(), lent(number, buf))
         }
         JobKind::Write { file, offset, buf } => {
-            let words = first_write(file, number, buf.len() as u32, offset);
-            (words, lent(number, buf))
+            let write = Write::new(Fixed(file), number, buf.len() as u32);
+            (write.offset(offset).build(), lent(number, buf))
         }
         JobKind::Fsync { file } => (on_file(3, file, 0), None),
         JobKind::Ftruncate { file, len } => (on_file(55, file, len), None),
@@ -113,14 +116,13 @@ fn lent(number: u64, buf: Buf) -> Option<Loan>
 }
 
 fn on_file(opcode: u8, file: u32, off: u64) -> Entry
-    ensures { result ≡ record (blank opcode) { fd = cast_signed w32 file; flags = 1; off = off } }
+    ensures { result ≡ on (registered file) (record (blank opcode) { off = off }) }
 {
-    Entry {
-        fd: file.cast_signed(),
-        flags: 1,
+    let words = Entry {
         off,
         ..Entry::blank(opcode)
-    }
+    };
+    words.on(Fixed(file).target())
 }
 
 fn marked(words: Entry, drain: bool, link: Link) -> Entry

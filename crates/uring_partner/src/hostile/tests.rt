@@ -3,7 +3,9 @@
 use crate::{EnterCall, HostilePartner, LoanPlan, Partner, Scripted};
 use std::process::Abort;
 use std::test::Fail;
-use uring_entry::{Buf, Event, Loan, first_nop, first_read};
+use uring_entry::squeue::Entry;
+use uring_entry::types::{Fixed, UseTarget};
+use uring_entry::{Buf, Event, Loan};
 use uring_ring::{IoUring, UserEnds};
 
 const CALL: EnterCall = EnterCall {
@@ -52,7 +54,13 @@ fn posts_its_script(rt: HostRuntime) -> Result<(), Fail> {
         from: 0,
         buf,
     };
-    let offered = ring.offer(first_read(7, 1, 2, 0).user_data(1), Some(loan));
+    let words = Entry {
+        addr: 1,
+        len: 2,
+        ..Entry::blank(22)
+    };
+    let read = words.on(Fixed(7).target()).user_data(1);
+    let offered = ring.offer(read, Some(loan));
     assert!(rt; offered.is_ok());
     ring.publish();
     assert_eq!(rt; partner.enter(alloc, &CALL, &mut ring)?, 1);
@@ -68,7 +76,11 @@ fn posts_its_script(rt: HostRuntime) -> Result<(), Fail> {
     reap(&rt, &mut ring, 1, -5, Some(1));
     reap(&rt, &mut ring, 9, 3, Some(4));
     assert!(rt; ring.reap().is_none());
-    assert!(rt; ring.offer(first_nop().user_data(2), None).is_ok());
+    let nop = Entry {
+        fd: -1,
+        ..Entry::blank(0)
+    };
+    assert!(rt; ring.offer(nop.user_data(2), None).is_ok());
     ring.publish();
     assert_eq!(rt; partner.enter(alloc, &CALL, &mut ring)?, 1);
     ring.refresh();

@@ -5,7 +5,8 @@ use std::alloc::{AllocError, Global};
 use std::process::Abort;
 use std::test::Fail;
 use uring_entry::squeue::{Entry, Flags};
-use uring_entry::{Buf, Event, Loan, first_nop, first_read, first_write};
+use uring_entry::types::{Fixed, UseTarget};
+use uring_entry::{Buf, Event, Loan};
 use uring_ring::{IoUring, UserEnds};
 
 /// Offers an entry under a number.
@@ -57,6 +58,32 @@ fn event(rt: &impl Abort, partner: &MemoryPartner, place: usize) -> Event {
     partner.log_event(place)
 }
 
+fn nop() -> Entry {
+    Entry {
+        fd: -1,
+        ..Entry::blank(0)
+    }
+}
+
+/// An operation of this code on a registered file, with the number of a loan and its length.
+fn on_file(code: u8, file: u32, loan: u64, len: u32, offset: u64) -> Entry {
+    let words = Entry {
+        off: offset,
+        addr: loan,
+        len,
+        ..Entry::blank(code)
+    };
+    words.on(Fixed(file).target())
+}
+
+fn read(file: u32, loan: u64, len: u32, offset: u64) -> Entry {
+    on_file(22, file, loan, len, offset)
+}
+
+fn write(file: u32, loan: u64, len: u32, offset: u64) -> Entry {
+    on_file(23, file, loan, len, offset)
+}
+
 /// An operation of this code on the number.
 fn cancel(op: u32, number: u64) -> Entry {
     Entry {
@@ -72,18 +99,18 @@ fn reads_and_writes(rt: HostRuntime) -> Result<(), Fail> {
     let mut partner = MemoryPartner::new(alloc);
     let mut ring = IoUring::new(alloc, 4)?;
     partner.put_file(alloc, 1, Buf::from_slice(alloc, b"hello")?)?;
-    offer(&rt, &mut ring, first_nop(), 7, None);
+    offer(&rt, &mut ring, nop(), 7, None);
     offer(
         &rt,
         &mut ring,
-        first_write(1, 8, 2, 1),
+        write(1, 8, 2, 1),
         8,
         lent(alloc, 8, 0, b"XY")?,
     );
     offer(
         &rt,
         &mut ring,
-        first_read(1, 9, 5, 0),
+        read(1, 9, 5, 0),
         9,
         lent(alloc, 9, 2, b"abcdef")?,
     );
@@ -112,16 +139,16 @@ fn short_read_cuts_the_write_behind_it(rt: HostRuntime) -> Result<(), Fail> {
     let mut partner = MemoryPartner::new(alloc);
     let mut ring = IoUring::new(alloc, 4)?;
     partner.put_file(alloc, 1, Buf::from_slice(alloc, b"hello")?)?;
-    let read = first_read(1, 1, 8, 0).flags(Flags::IO_LINK);
+    let read = read(1, 1, 8, 0).flags(Flags::IO_LINK);
     offer(&rt, &mut ring, read, 1, lent(alloc, 1, 0, b"........")?);
     offer(
         &rt,
         &mut ring,
-        first_write(1, 2, 2, 0),
+        write(1, 2, 2, 0),
         2,
         lent(alloc, 2, 0, b"XY")?,
     );
-    offer(&rt, &mut ring, first_nop(), 3, None);
+    offer(&rt, &mut ring, nop(), 3, None);
     assert_eq!(rt; turn(alloc, &mut partner, &mut ring)?, 3);
     reap(&rt, &mut ring, 1, 5, b"hello...");
     reap(&rt, &mut ring, 2, -125, b"XY");
@@ -138,10 +165,10 @@ fn a_choice_names_among_the_ready(rt: HostRuntime) -> Result<(), Fail> {
     partner.choices.push_back(3)?;
     partner.choices.push_back(3)?;
     partner.choices.push_back(0)?;
-    offer(&rt, &mut ring, first_nop().flags(Flags::IO_DRAIN), 1, None);
-    offer(&rt, &mut ring, first_nop(), 2, None);
-    offer(&rt, &mut ring, first_nop(), 3, None);
-    offer(&rt, &mut ring, first_nop().flags(Flags::IO_DRAIN), 4, None);
+    offer(&rt, &mut ring, nop().flags(Flags::IO_DRAIN), 1, None);
+    offer(&rt, &mut ring, nop(), 2, None);
+    offer(&rt, &mut ring, nop(), 3, None);
+    offer(&rt, &mut ring, nop().flags(Flags::IO_DRAIN), 4, None);
     assert_eq!(rt; turn(alloc, &mut partner, &mut ring)?, 4);
     reap(&rt, &mut ring, 1, 0, b"");
     reap(&rt, &mut ring, 3, 0, b"");
@@ -159,7 +186,7 @@ fn cancels_by_number(rt: HostRuntime) -> Result<(), Fail> {
     let mut partner = MemoryPartner::new(alloc);
     let mut ring = IoUring::new(alloc, 4)?;
     offer(&rt, &mut ring, cancel(0, 2), 1, None);
-    offer(&rt, &mut ring, first_nop(), 2, None);
+    offer(&rt, &mut ring, nop(), 2, None);
     offer(&rt, &mut ring, cancel(0, 3), 3, None);
     offer(&rt, &mut ring, cancel(1, 3), 4, None);
     assert_eq!(rt; turn(alloc, &mut partner, &mut ring)?, 4);
@@ -175,19 +202,13 @@ fn refuses_what_it_cannot_do(rt: HostRuntime) -> Result<(), Fail> {
     let alloc = rt.alloc();
     let mut partner = MemoryPartner::new(alloc);
     let mut ring = IoUring::new(alloc, 4)?;
-    offer(&rt, &mut ring, first_read(1, 1, 4, 0), 1, None);
+    offer(&rt, &mut ring, read(1, 1, 4, 0), 1, None);
     offer(&rt, &mut ring, Entry::blank(77), 2, None);
+    offer(&rt, &mut ring, nop().flags(Flags::BUFFER_SELECT), 3, None);
     offer(
         &rt,
         &mut ring,
-        first_nop().flags(Flags::BUFFER_SELECT),
-        3,
-        None,
-    );
-    offer(
-        &rt,
-        &mut ring,
-        first_read(1, 4, 2, 0),
+        read(1, 4, 2, 0),
         4,
         lent(alloc, 4, 0, b"ab")?,
     );
@@ -206,10 +227,10 @@ fn holds_back_what_does_not_fit(rt: HostRuntime) -> Result<(), Fail> {
     let mut builder = IoUring::builder();
     builder.setup_cqsize(2);
     let mut ring = builder.build(alloc, 2)?;
-    offer(&rt, &mut ring, first_nop(), 1, None);
-    offer(&rt, &mut ring, first_nop(), 2, None);
+    offer(&rt, &mut ring, nop(), 1, None);
+    offer(&rt, &mut ring, nop(), 2, None);
     assert_eq!(rt; turn(alloc, &mut partner, &mut ring)?, 2);
-    offer(&rt, &mut ring, first_nop(), 3, None);
+    offer(&rt, &mut ring, nop(), 3, None);
     assert_eq!(rt; turn(alloc, &mut partner, &mut ring)?, 1);
     assert_eq!(rt; partner.pending(), 1);
     reap(&rt, &mut ring, 1, 0, b"");
@@ -229,7 +250,7 @@ fn each_call(rt: HostRuntime) -> Result<(), Fail> {
     partner.put_file(alloc, 3, Buf::from_slice(alloc, b"four")?)?;
     assert_eq!(rt; partner.file_len(3), Some(4));
     partner.fail_enter(alloc, 2)?;
-    offer(&rt, &mut ring, first_nop(), 1, None);
+    offer(&rt, &mut ring, nop(), 1, None);
     assert_eq!(rt; turn(alloc, &mut partner, &mut ring)?, 1);
     assert_eq!(rt;
         turn(alloc, &mut partner, &mut ring),
