@@ -9,6 +9,8 @@ PROGRAM is the built program; without it, crates/uring_cli/out/uring_cli of this
   nop     jobs that do nothing
   bytes   three reads of 64 bytes for each write of 64 bytes, on one file of at most 4,160 bytes
 
+Then the 262,144 nops are run with rings of 1, of 64 and of 32,768 entries.
+
 Each script is run N times (3, unless said), and the shortest time counts. A run that doesn't end with
 status 0, or whose report lacks a job, stops the measuring with status 1. The goals are those of
 docs/BENCH.md; a goal that is missed is named, and the status is then 1 too.
@@ -26,6 +28,9 @@ MANY = 262_144
 GOAL_RATIO = 4.4
 GOAL_NOP_MICROSECONDS = 1.0
 GOAL_MEGABYTES = 400.0
+GOAL_RING_RATIO = 1.5
+
+RINGS = (1, 64, 32_768)
 
 INPUT_LIMIT = 16_777_216
 
@@ -60,13 +65,13 @@ def write_script(path, lines):
         sys.exit(f"measure.py: {path} has {size} bytes, more than the program takes")
 
 
-def run_once(program, script, report):
-    """Seconds and peak kilobytes of one run, and its status."""
+def run_once(program, options, script, report):
+    """Seconds and peak kilobytes of one run with these options, and its status."""
     with open(script, "rb") as source, open(report, "wb") as out:
         begin = time.perf_counter()
         pid = os.posix_spawn(
             program,
-            [program, "run"],
+            [program, "run", *options],
             {},
             file_actions=[
                 (os.POSIX_SPAWN_DUP2, source.fileno(), 0),
@@ -95,7 +100,7 @@ def check_report(report, jobs):
         sys.exit(f"measure.py: {outcomes} outcomes and {posts} posts for {jobs} jobs, last line {last!r}")
 
 
-def measure(program, folder, name, lines, jobs, runs):
+def measure(program, folder, name, lines, jobs, runs, options=()):
     """The shortest time and the highest peak of some runs."""
     script = os.path.join(folder, f"{name}-{jobs}.script")
     report = os.path.join(folder, f"{name}-{jobs}.report")
@@ -103,7 +108,7 @@ def measure(program, folder, name, lines, jobs, runs):
     best = None
     peak = 0
     for _ in range(runs):
-        seconds, kilobytes, status = run_once(program, script, report)
+        seconds, kilobytes, status = run_once(program, options, script, report)
         if status != 0:
             sys.exit(f"measure.py: {name} with {jobs} jobs ended with status {status}")
         best = seconds if best is None else min(best, seconds)
@@ -116,7 +121,23 @@ def measure(program, folder, name, lines, jobs, runs):
 
 def print_row(name, jobs, seconds, megabytes):
     each = seconds * 1_000_000 / jobs
-    print(f"{name:6} {jobs:7} jobs   {seconds:8.3f} s   {each:8.3f} microseconds a job   {megabytes:7.1f} MB")
+    print(f"{name:10} {jobs:7} jobs   {seconds:8.3f} s   {each:8.3f} microseconds a job   {megabytes:7.1f} MB")
+
+
+def measure_rings(program, folder, runs):
+    """How the time of the nops goes with the size of the rings."""
+    times = {}
+    for ring in RINGS:
+        options = ("--sq", str(ring))
+        seconds, peak = measure(program, folder, "nop", nop_lines, MANY, runs, options)
+        print_row(f"--sq {ring}", MANY, seconds, peak)
+        times[ring] = seconds
+    print(f"       rings of 1 take {times[1] / times[64]:.2f} times the time of rings of 64")
+    ratio = times[32_768] / times[64]
+    return judge(
+        ratio <= GOAL_RING_RATIO,
+        f"rings of 32768 take {ratio:.2f} times the time of rings of 64 (goal: at most {GOAL_RING_RATIO})",
+    )
 
 
 def judge(ok, text):
@@ -145,6 +166,7 @@ def main():
             if name == "nop":
                 each = many * 1_000_000 / MANY
                 met &= judge(each <= GOAL_NOP_MICROSECONDS, f"{name}: {each:.3f} microseconds a job (goal: at most {GOAL_NOP_MICROSECONDS:.0f})")
+        met &= measure_rings(program, folder, words.runs)
     sys.exit(0 if met else 1)
 
 

@@ -1,2 +1,4 @@
-pub mod Valid
-pub mod Done
+pub mod Seeding
+pub mod Performing
+pub mod WordLemmas
+pub mod Ending

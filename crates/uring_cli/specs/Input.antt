@@ -1,7 +1,7 @@
 -- What the source gave.
-use Rattle.std.specs.Prelude.{◌≡◌, ℕ, ◌+◌, ◌<◌, ◌≤◌, List, length, Option, Some, IfSome}
-use Rattle.uring_entry.specs.Causes.{Rose}
-use Rattle.uring_streams.specs.Inputs.{input_limit, IsWholeInput}
+use Rattle.std.specs.Prelude.{◌≡◌, ℕ, List, Option, Some}
+use Rattle.uring_streams.specs.Inputs.{IsWholeInput, IsRefusedFor}
+use Rattle.uring_streams.specs.declared.read.InputFault.TheVariants as refusals
 use Rattle.uring_text.specs.Lines.{lines_of}
 use Rattle.uring_text.specs.Script.{Told, script_of, IsFaultLine}
 use Rattle.uring_text.specs.declared.status.Status.{Status}
@@ -21,10 +21,10 @@ pub record GaveFault (left left' : Option (List ℕ)) (taken taken' : ℕ) (line
 
 -- what the source gave where no script came of it
 abbrev pub GaveNone : Option (List ℕ) → Option (List ℕ) → ℕ → ℕ → ℕ → ℕ → Status → Type 0
-GaveNone left left' taken taken' faults faults' ends.ReadFault = Rose faults faults' × (taken' ≤ taken + input_limit)
-GaveNone left left' taken taken' faults faults' ends.TooLong = IfSome left (λ input. input_limit < length input) × (taken + input_limit < taken')
+GaveNone left left' taken taken' faults faults' ends.ReadFault = IsRefusedFor left taken taken' faults faults' refusals.ReadFault
+GaveNone left left' taken taken' faults faults' ends.TooLong = IsRefusedFor left taken taken' faults faults' refusals.TooLong
+GaveNone left left' taken taken' faults faults' ends.NoMemory = IsRefusedFor left taken taken' faults faults' refusals.NoMemory
 GaveNone left left' taken taken' faults faults' (ends.Script line) = GaveFault left left' taken taken' line
-GaveNone left left' taken taken' faults faults' ends.NoMemory = taken' ≤ taken + input_limit
 GaveNone left left' taken taken' faults faults' ends.Done = ⊥
 GaveNone left left' taken taken' faults faults' ends.Usage = ⊥
 GaveNone left left' taken taken' faults faults' ends.BadSize = ⊥

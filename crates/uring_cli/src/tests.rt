@@ -3,7 +3,7 @@ use std::alloc::{AllocError, Global};
 use std::test::Fail;
 use uring_entry::{Buf, Nums};
 use uring_model::{Files, Outcome, have_counts, replay};
-use uring_partner::{MemoryPartner, Seedable};
+use uring_partner::{HostilePartner, LoanPlan, MemoryPartner, Partner, Scripted, Seedable};
 use uring_run::run_jobs;
 use uring_streams::{MemorySink, MemorySource};
 use uring_text::read_script;
@@ -17,17 +17,18 @@ const ZEROS: &str = "file 1 -\nwrite 1 2 ff\nread 1 0 3\n";
 const ZEROS_REPORT: &str =
     "out 0 1 ff\nout 1 3 0000ff\nturn 2\ntake 0\ntake 1\npost 0 1\npost 1 3\nend\n";
 
-/// The command of these words on a script, over streams of which one call may fail.
+/// The command of these words, with spaces between them, on a script, over streams of which one
+/// call may fail.
 #[derive(Drop)]
 struct Call<'a> {
-    words: &'a [&'a str],
+    words: &'a str,
     script: &'a str,
     failing_read: Option<u64>,
     piece: usize,
     failing_write: Option<u64>,
 }
 
-fn calling<'a>(words: &'a [&'a str], script: &'a str) -> Call<'a> {
+fn calling<'a>(words: &'a str, script: &'a str) -> Call<'a> {
     Call {
         words,
         script,
@@ -51,13 +52,13 @@ fn buf(alloc: Global, text: &str) -> Result<Buf, AllocError> {
 }
 
 /// The status of the call over this partner, and what it wrote.
-fn called(
+fn called<P: Seedable>(
     alloc: Global,
     call: &Call<'_>,
-    partner: &mut MemoryPartner,
+    partner: &mut P,
 ) -> Result<(Status, Buf), AllocError> {
     let mut words: Vec<Word> = Vec::new(alloc);
-    for word in call.words {
+    for word in call.words.split_whitespace() {
         words.push(buf(alloc, word)?)?;
     }
     let mut input = MemorySource::new(buf(alloc, call.script)?, nums(alloc, call.failing_read)?);
@@ -75,7 +76,7 @@ fn ends(alloc: Global, call: &Call<'_>, status: Status, written: &str) -> Result
 /// Each call that can find no memory answers otherwise where there is memory.
 #[test]
 fn each_call(rt: HostRuntime) -> Result<(), Fail> {
-    let call = calling(&["run"], "nop");
+    let call = calling("run", "nop");
     assert!(rt;
         ends(
             rt.alloc(),
@@ -103,7 +104,7 @@ fn reports(rt: HostRuntime) -> Result<(), Fail> {
         ),
     ] {
         assert!(rt;
-            ends(rt.alloc(), &calling(&["run"], script), Status::Done, report)?,
+            ends(rt.alloc(), &calling("run", script), Status::Done, report)?,
             "{script}"
         );
     }
@@ -115,7 +116,7 @@ fn reports(rt: HostRuntime) -> Result<(), Fail> {
 fn longest_file(rt: HostRuntime) -> Result<(), Fail> {
     let alloc = rt.alloc();
     let mut partner = MemoryPartner::new(alloc);
-    let past = calling(&["run"], "file 1 -\nwrite 1 16777216 00\n");
+    let past = calling("run", "file 1 -\nwrite 1 16777216 00\n");
     let (status, text) = called(alloc, &past, &mut partner)?;
     assert_eq!(rt; status, Status::Done);
     assert_eq!(rt;
@@ -123,7 +124,7 @@ fn longest_file(rt: HostRuntime) -> Result<(), Fail> {
         b"out 0 -27 00\nturn 1\ntake 0\npost 0 -27\nend\n".as_slice()
     );
     assert_eq!(rt; partner.file_len(1), Some(0));
-    let last = calling(&["run"], "file 1 -\nwrite 1 16777215 00\n");
+    let last = calling("run", "file 1 -\nwrite 1 16777215 00\n");
     let (status, text) = called(alloc, &last, &mut partner)?;
     assert_eq!(rt; status, Status::Done);
     assert_eq!(rt;
@@ -143,7 +144,7 @@ fn no_scripts(rt: HostRuntime) -> Result<(), Fail> {
         ("read 1 0 16777217\n", 1),
     ] {
         assert!(rt;
-            ends(alloc, &calling(&["run"], script), Status::Script(line), "")?,
+            ends(alloc, &calling("run", script), Status::Script(line), "")?,
             "{script}"
         );
     }
@@ -155,27 +156,137 @@ fn no_scripts(rt: HostRuntime) -> Result<(), Fail> {
 #[test]
 fn other_words(rt: HostRuntime) -> Result<(), Fail> {
     let alloc = rt.alloc();
-    assert!(rt; ends(alloc, &calling(&[], HELLO), Status::Usage, "")?);
-    assert!(rt; ends(alloc, &calling(&["runs"], HELLO), Status::Usage, "")?);
-    assert!(rt; ends(alloc, &calling(&["run", "--sq"], HELLO), Status::Usage, "")?);
-    assert!(rt;
-        ends(
-            alloc,
-            &calling(&["run", "--idle", "0"], HELLO),
-            Status::Usage,
-            ""
-        )?
-    );
+    for words in [
+        "",
+        "runs",
+        "run run",
+        "run --sq",
+        "run --sq 08",
+        "run --sq +8",
+        "run --sq 4294967296",
+        "run --sq 8 --sq 8",
+        "run --sq 8 --cq",
+        "run --idle 0",
+        "run --size 8",
+        "--sq 8",
+    ] {
+        assert!(rt;
+            ends(alloc, &calling(words, HELLO), Status::Usage, "")?,
+            "{words}"
+        );
+    }
+    Ok(())
+}
+
+#[test]
+fn sizes(rt: HostRuntime) -> Result<(), Fail> {
+    let alloc = rt.alloc();
+    for (words, script, report) in [
+        (
+            "run --sq 1",
+            "nop\nnop\nnop\n",
+            "out 0 0 -\nout 1 0 -\nout 2 0 -\nturn 1\ntake 0\npost 0 0\nturn 1\ntake 1\npost 1 0\nturn 1\ntake 2\npost 2 0\nend\n",
+        ),
+        (
+            "run --sq 2 --start 4294967295",
+            "nop\nnop",
+            "out 0 0 -\nout 1 0 -\nturn 2\ntake 0\ntake 1\npost 0 0\npost 1 0\nend\n",
+        ),
+        (
+            "run --idle 4294967295 --start 0 --cq 65536 --sq 32768",
+            HELLO,
+            HELLO_REPORT,
+        ),
+    ] {
+        assert!(rt;
+            ends(alloc, &calling(words, script), Status::Done, report)?,
+            "{words}"
+        );
+    }
+    Ok(())
+}
+
+/// Sizes and jobs that are refused leave the script's files in the partner, and nothing else.
+#[test]
+fn refusals(rt: HostRuntime) -> Result<(), Fail> {
+    let alloc = rt.alloc();
+    for (words, script, status) in [
+        ("run --sq 0", HELLO, Status::BadSize),
+        ("run --sq 8 --cq 4", HELLO, Status::BadSize),
+        ("run --cq 0", HELLO, Status::BadSize),
+        ("run --sq 32769", HELLO, Status::BadSize),
+        (
+            "run",
+            "file 3 68656c6c6f\nread 1 9223372036854775807 1\n",
+            Status::BadJob(0),
+        ),
+        (
+            "run",
+            "nop\nfile 3 68656c6c6f\nwrite 1 18446744073709551615 00\nread 1 18446744073709551615 1\n",
+            Status::BadJob(1),
+        ),
+    ] {
+        let mut partner = MemoryPartner::new(alloc);
+        let (end, text) = called(alloc, &calling(words, script), &mut partner)?;
+        assert_eq!(rt; end, status, "{words}");
+        assert!(rt; text.is_empty());
+        assert_eq!(rt; partner.log_len(), 0);
+        assert_eq!(rt; partner.file_bytes(3), Some(b"hello".as_slice()));
+    }
+    let text = status_text(alloc, Status::BadJob(0))?;
+    assert_eq!(rt; text.as_slice(), b"bad job 0".as_slice());
+    Ok(())
+}
+
+/// An enter that fails by plan ends the run, and nothing is written.
+#[test]
+fn planned_fault(rt: HostRuntime) -> Result<(), Fail> {
+    let alloc = rt.alloc();
+    let mut partner = MemoryPartner::new(alloc);
+    partner.fail_enter(alloc, 1)?;
+    let (status, text) = called(alloc, &calling("run", HELLO), &mut partner)?;
+    assert_eq!(rt; status, Status::PartnerFault);
+    assert!(rt; text.is_empty());
+    assert_eq!(rt; (partner.faults(), partner.log_len()), (1, 0));
+    let (status, text) = called(alloc, &calling("run", HELLO), &mut partner)?;
+    assert_eq!(rt; status, Status::Done);
+    assert_eq!(rt; text.as_slice(), HELLO_REPORT.as_bytes());
+    Ok(())
+}
+
+/// A partner that posts nothing stalls the run after as many turns as `--idle` says, and one that
+/// posts what no job is due ends it.
+#[test]
+fn hostile_partners(rt: HostRuntime) -> Result<(), Fail> {
+    let alloc = rt.alloc();
+    let call = calling("run --idle 2", "nop\n");
+    let mut silent = HostilePartner::new(alloc, Vec::new(alloc));
+    let (status, text) = called(alloc, &call, &mut silent)?;
+    assert_eq!(rt; status, Status::Stalled);
+    assert!(rt; text.is_empty());
+    assert_eq!(rt; silent.log_len(), 3);
+    let posts = vec![in alloc;
+        Scripted::Post {
+            user_data: 7,
+            result: 0,
+            flags: 0,
+            loan: LoanPlan::Nothing,
+        },
+    ]?;
+    let mut stranger = HostilePartner::new(alloc, posts);
+    let (status, text) = called(alloc, &call, &mut stranger)?;
+    assert_eq!(rt; status, Status::Stranger(7));
+    assert!(rt; text.is_empty());
     Ok(())
 }
 
 #[test]
 fn failing_streams(rt: HostRuntime) -> Result<(), Fail> {
     let alloc = rt.alloc();
-    let mut call = calling(&["run"], HELLO);
+    let mut call = calling("run", HELLO);
     call.failing_read = Some(2);
     assert!(rt; ends(alloc, &call, Status::ReadFault, "")?);
-    let mut call = calling(&["run"], HELLO);
+    let mut call = calling("run", HELLO);
     call.piece = 4;
     assert!(rt; ends(alloc, &call, Status::Done, HELLO_REPORT)?);
     call.failing_write = Some(2);
@@ -188,7 +299,7 @@ fn two_runs_on_one_partner(rt: HostRuntime) -> Result<(), Fail> {
     let alloc = rt.alloc();
     let mut partner = MemoryPartner::new(alloc);
     for (script, report) in [(HELLO, HELLO_REPORT), (ZEROS, ZEROS_REPORT)] {
-        let (status, text) = called(alloc, &calling(&["run"], script), &mut partner)?;
+        let (status, text) = called(alloc, &calling("run", script), &mut partner)?;
         assert_eq!(rt; status, Status::Done);
         assert_eq!(rt; text.as_slice(), report.as_bytes());
     }

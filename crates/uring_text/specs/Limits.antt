@@ -7,7 +7,7 @@ number_limit = 2 ^ 32
 
 -- the offset of a read or write is below this
 abbrev pub offset_limit : ℕ
-offset_limit = 2 ^ 32
+offset_limit = 2 ^ 64
 
 -- the length of a read is below this
 abbrev pub len_limit : ℕ

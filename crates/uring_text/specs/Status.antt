@@ -1,5 +1,7 @@
 -- The exit status of each end of a run, and its text.
 use Rattle.std.specs.Prelude.{ℕ, List, [], ◌++◌, codes, decimal}
+use Rattle.uring_model.specs.declared.jobs.RunFault.{RunFault}
+use Rattle.uring_model.specs.declared.jobs.RunFault.TheVariants as faults
 use Rattle.uring_text.specs.declared.status.Status.{Status}
 use Rattle.uring_text.specs.declared.status.Status.TheVariants as ends
 
@@ -30,3 +32,12 @@ words_of ends.Stalled = codes "stalled"
 words_of ends.PartnerFault = codes "partner fault"
 words_of ends.WriteFault = codes "write fault"
 words_of ends.NoMemory = codes "no memory"
+
+-- the status of a run that was given up
+abbrev pub status_of : RunFault → Status
+status_of faults.BadSize = ends.BadSize
+status_of (faults.BadJob job) = ends.BadJob job
+status_of (faults.Stranger number) = ends.Stranger number
+status_of faults.Stalled = ends.Stalled
+status_of faults.PartnerFault = ends.PartnerFault
+status_of faults.NoMemory = ends.NoMemory

@@ -51,7 +51,8 @@ fn number(text: &[u8]) -> Option<u64>
     }
 }
 
-/// The number whose decimal text this is, if it is at most `most`.
+/// The number whose decimal text this is, if it is at most `most`. The text has no sign, and no
+/// zero in front unless it is `0`.
 pub fn number_to(text: &[u8], most: u64) -> Option<u64>
     ensures value { result ≡ number_below (most + 1) text.now }
     ensures small { IfSome result (λ n. n ≤ most) }

@@ -9,6 +9,7 @@ mod report;
 mod script;
 mod status;
 
+pub use fields::number_to;
 pub use laws::{
     fields_end_at_spaces, fronts_are_scripts, lines_are_as_said, lines_end_at_feeds,
     numbers_are_decimal, scripts_are_as_said,

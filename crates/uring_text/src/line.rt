@@ -11,7 +11,7 @@ use uring_model::{Job, JobKind, Link};
 
 const MOST_NUMBER: u64 = 4_294_967_295;
 
-const MOST_OFFSET: u64 = 4_294_967_295;
+const MOST_OFFSET: u64 = u64::MAX;
 
 const MOST_LEN: u64 = 16_777_216;
 

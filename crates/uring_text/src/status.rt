@@ -36,6 +36,23 @@ pub enum Status {
     NoMemory,
 }
 
+impl From<RunFault> for Status {
+    ghost use Rattle.uring_text.specs.Status.{status_of};
+
+    ghost from_gives = { λ fault status. status ≡ status_of fault };
+
+    fn from(fault: RunFault) -> Status {
+        match fault {
+            RunFault::BadSize => Status::BadSize,
+            RunFault::BadJob(job) => Status::BadJob(job),
+            RunFault::Stranger(number) => Status::Stranger(number),
+            RunFault::Stalled => Status::Stalled,
+            RunFault::PartnerFault => Status::PartnerFault,
+            RunFault::NoMemory => Status::NoMemory,
+        }
+    }
+}
+
 impl Status {
     /// The status that the process exits with.
     pub fn code(&self) -> u8

@@ -87,8 +87,12 @@ fn scripts(rt: HostRuntime) -> Result<(), Fail> {
         ),
         ("\n# a comment\r\n#\n\nnop\n", "nop;"),
         (
-            "write 4294967295 4294967295 aBFf",
-            "write 4294967295 4294967295 [abff];",
+            "write 4294967295 18446744073709551615 aBFf",
+            "write 4294967295 18446744073709551615 [abff];",
+        ),
+        (
+            "read 1 9223372036854775807 1",
+            "read 1 9223372036854775807 [00];",
         ),
         ("read 0 0 0\nwrite 1 0 -", "read 0 0 [];write 1 0 [];"),
         ("nop\nfile 2 00\nnop", "file 2 [00];nop;nop;"),
@@ -118,7 +122,7 @@ fn fault_lines(rt: HostRuntime) -> Result<(), Fail> {
         ("file 1 ", "line 1"),
         ("file 1 --", "line 1"),
         ("file 4294967296 00", "line 1"),
-        ("read 1 4294967296 0", "line 1"),
+        ("read 1 18446744073709551616 0", "line 1"),
         ("read 1 -1 0", "line 1"),
         ("write 1 0", "line 1"),
         ("read 1 0 1 1", "line 1"),

@@ -1,21 +1,33 @@
-use Rattle.std.proofs.Common.{refl}
+use Rattle.std.proofs.Common.{inr, Ok, ap, sym, subst, ◌∙◌}
+use Rattle.std.proofs.lemmas.Result.{err_from_is_err_and}
 use Rattle.uring_text.specs.Script.{told_by}
-use Rattle.uring_run.specs.Runs.{IsValidRun}
-use Rattle.uring_cli.proofs.Done.{IsSeeded, performed, failed}
+use Rattle.uring_text.specs.Status.{status_of}
+use Rattle.uring_cli.specs.Runs.{Failed}
+use Rattle.uring_cli.proofs.Performing.{performed, failed}
 use Rattle.uring_cli.proofs.perform.perform.Goals as goal
 
-pub returns-in-Err-clause-err : goal.returns-in-Err-clause-err
-returns-in-Err-clause-err c =
-    let seeds : IsSeeded (told_by c.args.script) c.args.partner.now c.seed_files.new.partner =
-    record { state = c.in_ok-seed_files.ensures.ok; log = c.seed_files.ensures.log; plan = c.seed_files.ensures.plan; faults = c.seed_files.ensures.faults } in
-    let valid : IsValidRun 8 16 c.args.script.jobs.items = record { size = refl; jobs_valid = c.requires } in
-    let h = c.in-Err.ensures in
-    rw c.status_of.ensures (failed (told_by c.args.script) _ c.seed_files.new.partner _ c.in-Err.fault seeds (h.run valid) h.cause h.unplanned)
+pub returns-in_err-report-clause-err : goal.returns-in_err-report-clause-err
+returns-in_err-report-clause-err g c =
+    let run = c.in_err-report.ensures in
+    let p = err_from_is_err_and c.from_residual.result c.from_residual.ensures.1 in
+    rw p.1 (subst (λ s. Failed g.P.Partner.log g.P.Partner.state g.P.Partner.plan (told_by c.args.script) c.args.options c.args.partner.now c.run_jobs.new.partner s) (sym p.2)
+    (failed g.P.Partner.log g.P.Partner.state g.P.Partner.plan (told_by c.args.script) c.args.options _ c.seed_files.new.partner _ c.in_err-report.field-0.0 c.in_default.ensures.ok run.refused run.run))
 
-pub returns-in-Ok-report_text-clause-ok : goal.returns-in-Ok-report_text-clause-ok
-returns-in-Ok-report_text-clause-ok c =
-    let seeds : IsSeeded (told_by c.args.script) c.args.partner.now c.seed_files.new.partner =
-    record { state = c.in_ok-seed_files.ensures.ok; log = c.seed_files.ensures.log; plan = c.seed_files.ensures.plan; faults = c.seed_files.ensures.faults } in
-    let valid : IsValidRun 8 16 c.args.script.jobs.items = record { size = refl; jobs_valid = c.requires } in
-    let done = performed (told_by c.args.script) _ c.seed_files.new.partner _ c.in-Ok.report seeds (c.in-Ok.ensures.run valid) in
-    (c.in-Ok.report.outcomes.items, c.in-Ok.report.journal.items, c.in-Ok-report_text.ensures, done)
+pub returns-in_err-report_text-clause-err : goal.returns-in_err-report_text-clause-err
+returns-in_err-report_text-clause-err g c =
+    let run = c.in_ok-report.ensures in
+    let p = err_from_is_err_and c.from_residual-in_err-report_text.result c.from_residual-in_err-report_text.ensures.1 in
+    rw p.1 (subst (λ s. Failed g.P.Partner.log g.P.Partner.state g.P.Partner.plan (told_by c.args.script) c.args.options c.args.partner.now c.run_jobs.new.partner s)
+    (sym (p.2 ∙ ap status_of c.in_err-report_text.ensures))
+    (inr (
+      Ok c.in_ok-report.report,
+      performed g.P.Partner.log g.P.Partner.state g.P.Partner.plan (told_by c.args.script) c.args.options _ c.seed_files.new.partner _ c.in_ok-report.report c.in_default.ensures.ok run.refused run.run,
+    )))
+
+pub returns-clause-ok : goal.returns-clause-ok
+returns-clause-ok g c =
+    let run = c.in_ok-report.ensures in (
+      c.in_ok-report.report,
+      c.in_ok-report_text.ensures,
+      performed g.P.Partner.log g.P.Partner.state g.P.Partner.plan (told_by c.args.script) c.args.options _ c.seed_files.new.partner _ c.in_ok-report.report c.in_default.ensures.ok run.refused run.run,
+    )

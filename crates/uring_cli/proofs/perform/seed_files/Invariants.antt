@@ -1,13 +1,13 @@
-use Rattle.std.proofs.Common.{◌≡◌}
-use Rattle.uring_partner.specs.Told.{state_of, told_log, told_plan, told_faults}
-use Rattle.uring_cli.specs.Files.{seeded}
+use Rattle.std.proofs.Common.{◌≡◌, ◌≤◌, List, ◌++◌}
+use Rattle.std.specs.Prelude.{IfSome}
+use Rattle.uring_text.specs.declared.script.Seed.{Seed}
+use Rattle.uring_cli.specs.Files.{HasFiles}
 use Rattle.uring_cli.proofs.perform.seed_files.Given as goal
 
--- the files that are left, put into what the partner has, give what all of them give
+-- the first few files are in, and the others are left
 abbrev pub invariant-loop-seed : goal.invariant-loop-seed
-invariant-loop-seed l = record {
-  left : seeded l.seed-iterator.rest.items (state_of l.partner) ≡ seeded l.fn.files.items (state_of l.fn.partner);
-  log : told_log l.partner ≡ told_log l.fn.partner;
-  plan : told_plan l.partner ≡ told_plan l.fn.partner;
-  faults : told_faults l.partner ≡ told_faults l.fn.partner;
+invariant-loop-seed g l = record {
+  front : (front : List Seed) × (l.fn.files.items ≡ front ++ l.seed-iterator.rest.items) × HasFiles g.P.Partner.log g.P.Partner.state g.P.Partner.plan front l.fn.partner l.partner;
+  faults : g.P.Counts.faults l.fn.partner ≤ g.P.Counts.faults l.partner;
+  calm : IfSome (g.P.Partner.state l.fn.partner) (λ _. g.P.Counts.faults l.partner ≡ g.P.Counts.faults l.fn.partner);
 }
