@@ -2,29 +2,23 @@
 
 ghost use Rattle.std.specs.Prelude.{◌≡◌, ◌++◌, IfOk, OnOk, MatchResult, string_bytes};
 ghost use Rattle.uring_model.specs.declared.jobs.RunFault.TheVariants.{NoMemory};
-ghost use Rattle.uring_text.specs.Report.{hex_text, buffer_text, outcome_line, event_line, text_of};
+ghost use Rattle.uring_text.specs.Report.{buffer_text, outcome_line, event_line, text_of};
 
 use std::alloc::{AllocError, Global};
 use std::fmt::Write;
 use uring_entry::{Buf, Event};
 use uring_model::{Outcome, Report, RunFault};
 
-fn hex_text(alloc: Global, bytes: &[u8]) -> Result<String, AllocError>
-    ensures { IfOk result (λ text. string_bytes text ≡ hex_text bytes.now) }
-{
-    if bytes.is_empty() {
-        String::from_str(alloc, "-")
-    } else {
-        hex::encode(alloc, bytes)
-    }
-}
-
-fn buffer_text(alloc: Global, buf: &Option<Buf>) -> Result<String, AllocError>
-    ensures { IfOk result (λ text. string_bytes text ≡ buffer_text buf.now) }
+/// Writes a buffer's bytes as hex, or a dash where there are none.
+fn put_buffer(alloc: Global, out: &mut String, buf: &Option<Buf>) -> Result<(), AllocError>
+    ensures { OnOk result (string_bytes out.new ≡ string_bytes out.old ++ buffer_text buf.now) }
 {
     match buf {
-        None => String::from_str(alloc, "-"),
-        Some(buf) => hex_text(alloc, buf.as_slice()),
+        Some(buf) if !buf.is_empty() => {
+            let hex = hex::encode(alloc, buf.as_slice())?;
+            out.push_str(hex.as_str())
+        }
+        _ => out.push_str("-"),
     }
 }
 
@@ -36,9 +30,10 @@ fn put_outcome(
 ) -> Result<(), AllocError>
     ensures { OnOk result (string_bytes out.new ≡ string_bytes out.old ++ outcome_line job outcome.now) }
 {
-    let hex = buffer_text(alloc, &outcome.buf)?;
     let result = outcome.result;
-    writeln!(out, "out {job} {result} {hex}")
+    write!(out, "out {job} {result} ")?;
+    put_buffer(alloc, out, &outcome.buf)?;
+    out.push_str("\n")
 }
 
 fn put_event(out: &mut String, event: Event) -> Result<(), AllocError>
