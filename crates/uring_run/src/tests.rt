@@ -3,7 +3,7 @@ use std::alloc::{AllocError, Global};
 use std::process::Abort;
 use std::test::Fail;
 use uring_entry::{Buf, Event};
-use uring_partner::{HostilePartner, LoanPlan, MemoryPartner, Scripted, Seedable};
+use uring_partner::{HostilePartner, LoanPlan, MemoryPartner, Partner, Scripted, Seedable};
 
 fn free(kind: JobKind) -> Job {
     Job {
@@ -92,10 +92,9 @@ fn fault_over(
 #[test]
 fn hostile_partners(rt: HostRuntime) -> Result<(), Fail> {
     let alloc = rt.alloc();
-    let read = read_of_two(alloc)?;
     let posts = vec![in alloc; post(7, 0, 0, LoanPlan::Nothing)]?;
     assert_eq!(rt;
-        fault_over(&rt, alloc, read, posts)?,
+        fault_over(&rt, alloc, JobKind::Nop, posts)?,
         Some(RunFault::Stranger(7))
     );
     let read = read_of_two(alloc)?;
@@ -118,6 +117,19 @@ fn hostile_partners(rt: HostRuntime) -> Result<(), Fail> {
     let read = read_of_two(alloc)?;
     let posts = vec![in alloc; post(0, 1000, 0, LoanPlan::Lent)]?;
     assert_eq!(rt; fault_over(&rt, alloc, read, posts)?, None);
+    Ok(())
+}
+
+/// A silent partner is given up after as many turns as may pass: its log has a turn over the entry,
+/// the entry's taking, and a turn over none.
+#[test]
+fn idle_turns(rt: HostRuntime) -> Result<(), Fail> {
+    let alloc = rt.alloc();
+    let mut partner = HostilePartner::new(alloc, Vec::new(alloc));
+    let jobs = one(alloc, JobKind::Nop)?;
+    let run = run_jobs(alloc, 8, 16, 0, 2, &mut partner, jobs);
+    assert!(rt; matches!(run, Err(RunFault::Stalled)));
+    assert_eq!(rt; partner.log_len(), 3);
     Ok(())
 }
 
