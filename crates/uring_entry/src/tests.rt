@@ -11,6 +11,11 @@ fn each_call(rt: HostRuntime) -> Result<(), Fail> {
     let buf = Buf::from_slice(alloc, b"abc")?;
     assert_eq!(rt; buf.try_clone(alloc)?.as_slice(), b"abc".as_slice());
     assert_eq!(rt; Buf::zeroed(alloc, 2)?.as_slice(), [0, 0].as_slice());
+    let mut sized = buf.try_clone(alloc)?;
+    sized.resize(alloc, 5)?;
+    assert_eq!(rt; sized.as_slice(), b"abc\0\0".as_slice());
+    sized.resize(alloc, 1)?;
+    assert_eq!(rt; sized.as_slice(), b"a".as_slice());
     let loan = Loan {
         number: 7,
         from: 1,

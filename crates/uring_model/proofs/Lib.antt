@@ -5,6 +5,7 @@ pub mod Lengths
 pub mod Simulation
 pub mod Explained
 pub mod Keys
+pub mod Overlay
 pub mod Steps
 pub mod Progress
 pub mod Whole

@@ -1,6 +1,6 @@
 //! The files of a machine.
 
-ghost use Rattle.std.specs.Prelude.{◌≡◌, ℕ, List, OnOk, OnErr, IsOk, IsSome, option_copied};
+ghost use Rattle.std.specs.Prelude.{◌≡◌, ℕ, List, OnOk, OnErr, IsOk, IsSome, MatchOption, [], option_copied};
 ghost use Rattle.std.specs.Ordering.{nat_cmp};
 ghost use Rattle.std.specs.FinMap as map;
 
@@ -43,6 +43,20 @@ impl Files {
         ensures { option_copied result ≡ map.get self.now number }
     {
         self.by_number.get(&number)
+    }
+
+    /// Takes the bytes of a file out, where there is such a file; it has none then.
+    pub fn take(&mut self, alloc: Global, number: u32) -> Option<Buf>
+        ensures bytes { result ≡ map.get self.old number }
+        ensures left { MatchOption result (self.new ≡ self.old) (λ _. self.new ≡ map.insert self.old number []) }
+    {
+        if self.get(number).is_none() {
+            return None;
+        }
+        match self.by_number.insert(number, Buf::new(alloc)) {
+            Ok(bytes) => bytes,
+            Err(_) => unreachable!(),
+        }
     }
 
     /// Gives a file its bytes. Only a number that is new can lack memory.
