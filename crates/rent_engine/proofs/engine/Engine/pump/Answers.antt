@@ -1,0 +1,69 @@
+use Rattle.std.proofs.Common.{◌≡◌, [], Ok, Err, refl, sym, ap, ◌∙◌, subst, arith}
+use Rattle.uring_ring.specs.Lists.{Becomes, WhereTold, all_published}
+use Rattle.rent_engine.specs.Engines.{Reaped, finals_in}
+use Rattle.rent_engine.proofs.Pumping.{published_reaped, Pumps-taken, Pumps-strange, Pumped-more, Pumped-same, finals_more, is_last}
+use Rattle.rent_engine.proofs.engine.Engine.pump.Goals as goal
+
+pub reaps-init : goal.reaps-init
+reaps-init g c =
+    let v = c.self.view_is in
+    let r = ap (λ e. e.ring) v in
+    let room = c.publish.ensures.seen.0 ∙ ap g.R.UserEnds.room r in
+    let grows = c.refresh.ensures.grows.0 in
+    let spare = ap (λ e. e.spare) v in
+    record {
+      pumped = record {
+        completions = [];
+        uses = subst (λ x. g.R.UserEnds.used x [] [] c.refresh.new.self) r (g.met.R.UserEnds.used_then _ _ _ [] [] [] [] c.publish.ensures.used c.refresh.ensures.used);
+        told = subst (λ x. WhereTold (Reaped []) (g.R.Rings.lists x) (g.R.Rings.lists c.refresh.new.self)) r (published_reaped _ _ (subst (λ o. Becomes (g.R.Rings.lists c.self.inside.ring) all_published o) (sym c.refresh.ensures.told) c.publish.ensures.told));
+        seen = c.refresh.ensures.seen;
+        places = omega (arith, room, grows);
+        completed = ap (λ e. e.ops) v;
+      };
+      finals = refl;
+      spare = omega (arith, spare);
+      params = ap (λ e. e.params) v;
+    }
+
+pub returns-in-Err-clause-pumped : goal.returns-in-Err-clause-pumped
+returns-in-Err-clause-pumped g c =
+    let i = c.reaps.invariant in
+    let v = c.self-in-reaps.view_is in
+    let e = c.in-Some.ensures in (
+      (Pumped-more g.R.UserEnds.used g.R.Rings.lists g.R.UserEnds.room g.R.UserEnds.waiting g.met.R.UserEnds.used_then
+          c.args.self.now.ring c.reaps.self.ring c.self-in-reaps.inside.ring c.reap.new.self c.complete.new.self.ring c.args.self.now.ops c.reaps.self.ops c.self-in-reaps.inside.operations.ops c.complete.new.self.ops (Err c.in-Err.fault) c.in-Some.completion
+          i.pumped (ap (λ s. s.ring) v) (ap (λ s. s.ops) v) c.complete.ensures.ring e.used e.told e.room e.count
+          (Pumps-strange _ _ _ _ c.complete.ensures.ops c.in-Err.ensures.stranger c.in-Err.ensures.fault)).0,
+      tt,
+    )
+
+pub reaps-preserved : goal.reaps-preserved
+reaps-preserved g c =
+    let i = c.reaps.invariant in
+    let v = c.self-in-reaps.view_is in
+    let e = c.in-Some.ensures in
+    let was = ap (λ s. s.spare) v in
+    let here = c.complete.ensures.spare in
+    let before = i.spare in
+    let p = Pumped-more g.R.UserEnds.used g.R.Rings.lists g.R.UserEnds.room g.R.UserEnds.waiting g.met.R.UserEnds.used_then
+    c.args.self.now.ring c.reaps.self.ring c.self-in-reaps.inside.ring c.reap.new.self c.complete.new.self.ring c.args.self.now.ops c.reaps.self.ops c.self-in-reaps.inside.operations.ops c.complete.new.self.ops (Ok tt) c.in-Some.completion
+    i.pumped (ap (λ s. s.ring) v) (ap (λ s. s.ops) v) c.complete.ensures.ring e.used e.told e.room e.count
+    (Pumps-taken _ _ _ c.complete.ensures.ops c.in-Ok.ensures.stranger) in
+    record {
+      pumped = p.0;
+      finals = finals_more i.pumped.completions c.in-Some.completion c.reaps.finals _ c.is_none.result (is_last c.in-Some.completion c.in-Ok.step c.is_none.result c.in-Ok.ensures.step c.is_none.ensures) i.finals c.one_more_if-finals.ensures ∙ ap finals_in (sym p.1);
+      spare = omega (arith, was, here, before);
+      params = c.complete.ensures.params ∙ ap (λ s. s.params) v ∙ i.params;
+    }
+
+pub returns-clause-pumped : goal.returns-clause-pumped
+returns-clause-pumped g c =
+    let i = c.reaps.invariant in
+    let v = c.self-in-reaps.view_is in
+    let e = c.in_default.ensures in
+    let count = e.count in
+    let none : g.R.UserEnds.waiting c.self-in-reaps.inside.ring ≡ g.R.UserEnds.waiting c.reap.new.self = omega (arith, count) in
+    let p = Pumped-same g.R.UserEnds.used g.R.Rings.lists g.R.UserEnds.room g.R.UserEnds.waiting g.met.R.UserEnds.used_then
+    c.args.self.now.ring c.reaps.self.ring c.self-in-reaps.inside.ring c.reap.new.self c.args.self.now.ops c.reaps.self.ops c.self-in-reaps.inside.operations.ops
+    i.pumped (ap (λ s. s.ring) v) (ap (λ s. s.ops) v) e.used e.told e.room none in
+    (p.0, (refl, i.finals ∙ sym p.1))

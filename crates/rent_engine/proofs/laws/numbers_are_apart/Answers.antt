@@ -1,0 +1,11 @@
+use Rattle.rent_engine.proofs.Staying.{starts_apart, lands_apart, leaves_apart}
+use Rattle.rent_engine.proofs.laws.numbers_are_apart.Goals as goal
+
+pub returns-clause-started : goal.returns-clause-started
+returns-clause-started c = starts_apart
+
+pub returns-clause-completed : goal.returns-clause-completed
+returns-clause-completed c = lands_apart
+
+pub returns-clause-polled : goal.returns-clause-polled
+returns-clause-polled c = leaves_apart

@@ -1,0 +1,105 @@
+-- What a contract sees of an engine, and what its calls do with the rings.
+use Rattle.std.specs.Prelude.{◌≡◌, ℕ, ◌+◌, ◌≤◌, min, Bool, true, false, refl, Option, Some, None, IfSome, Result, Ok, Err, List, [], ◌++◌, length, count_by}
+use Rattle.std.specs.Coded.{Coded, code_by, coded×, coded_ℕ}
+use Rattle.uring_entry.specs.declared.squeue.Entry.{Entry}
+use Rattle.uring_entry.specs.declared.buffer.Buf.{Buf}
+use Rattle.uring_entry.specs.declared.buffer.Loan.{Loan}
+use Rattle.uring_entry.specs.declared.events.Taken.{Taken}
+use Rattle.uring_entry.specs.declared.events.Completion.{Completion}
+use Rattle.uring_entry.specs.Completions.{is_final}
+use Rattle.uring_ring.specs.declared.setup.Parameters.{Parameters}
+use Rattle.uring_ring.specs.contracts.setup.Parameters as parameters
+use Rattle.uring_ring.specs.Lists.{Lists, Becomes, WhereTold, free_of, small}
+use Rattle.rent_engine.specs.declared.ops.OpKey.{OpKey}
+use Rattle.rent_engine.specs.declared.ops.StartFault.{StartFault}
+use Rattle.rent_engine.specs.declared.ops.StartFault.TheVariants.{KeyInUse, RingFull, NoMemory}
+use Rattle.rent_engine.specs.declared.ops.EngineFault.{EngineFault}
+use Rattle.rent_engine.specs.declared.ops.EngineFault.TheVariants as faults
+use Rattle.rent_engine.specs.Kept.{ops_code}
+use Rattle.rent_engine.specs.Ops.{Ops, Pumps}
+
+pub record EngineState (R : Type 0) : Type 0 where
+  pub ring : R
+  pub params : Parameters
+  pub ops : Ops
+  -- how many more operations can be started with no memory
+  pub spare : ℕ
+
+abbrev pub engine_code : {R : Type 0} → Coded R → Coded (EngineState R)
+engine_code {R} coded = code_by (R × (Parameters × (Ops × ℕ))) (coded× coded (coded× parameters.the_row.coded (coded× ops_code coded_ℕ))) (λ e. (e.ring, (e.params, (e.ops, e.spare)))) (λ p. record { ring = p.0; params = p.1.0; ops = p.1.1.0; spare = p.1.1.1 }) (λ _. refl)
+
+abbrev pub loan_of : ℕ → ℕ → Option Buf → Option Loan
+loan_of n from None = None
+loan_of n from (Some buf) = Some (record { number = n; from = from; buf = buf })
+
+-- what is offered for an operation: its entry under its number, with its buffer lent
+abbrev pub asked : ℕ → Entry → ℕ → Option Buf → Taken
+asked n entry from buf = small (record entry { user_data = n }) (loan_of n from buf)
+
+-- these entries were offered
+abbrev pub all_offered : List Taken → Lists → Lists
+all_offered ts l = record l { pushed = l.pushed ++ ts }
+
+-- what was offered is published, the slots of what was reaped before are given back, and then these completions were reaped
+pub record Reaped (cs : List Completion) (before after : Lists) : Type 0 where
+  pub published : after.published ≡ before.published ++ before.pushed
+  pub pushed : after.pushed ≡ []
+  pub completions : before.completions ≡ cs ++ after.completions
+  pub held : after.held ≡ length cs
+  pub capacity : after.capacity ≡ before.capacity
+  pub completion_capacity : after.completion_capacity ≡ before.completion_capacity
+
+module _ {R : Type 0} (used : R → List Taken → List Completion → R → Type 0) (lists : R → Option Lists) (room waiting : R → ℕ) where
+  -- these entries were offered, and nothing else was done
+  pub record Offered (before : R) (ts : List Taken) (after : R) : Type 0 where
+    pub uses : used before ts [] after
+    pub told : Becomes (lists before) (all_offered ts) (lists after)
+    pub places : room before ≡ room after + length ts
+    pub seen : waiting after ≡ waiting before
+
+  -- what is offered is published, what the partner did is seen, and completions are reaped and taken one after another
+  pub record Pumped (before after : R) (ops ops' : Ops) (end : Result (Unit {0}) EngineFault) : Type 0 where
+    pub completions : List Completion
+    pub uses : used before [] completions after
+    pub told : WhereTold (Reaped completions) (lists before) (lists after)
+    pub seen : IfSome (lists after) (λ l. (room after ≡ free_of l) × (waiting after ≡ length l.completions))
+    pub places : room before ≤ room after
+    pub completed : Pumps ops completions ops' end
+
+-- how many are final, as far as 32 bits tell
+abbrev pub finals_in : List Completion → ℕ
+finals_in cs = min (count_by (λ c. is_final c.flags) cs) 4294967295
+
+-- a fault of the partner
+abbrev pub is_fault : EngineFault → Bool
+is_fault (faults.Stranger n) = false
+is_fault (faults.Fault errno) = true
+is_fault faults.NoMemory = false
+
+abbrev pub ending : {T : Type 0} → Result T EngineFault → Result (Unit {0}) EngineFault
+ending (Ok _) = Ok tt
+ending (Err fault) = Err fault
+
+abbrev pub fault_buf : StartFault → Option Buf
+fault_buf (KeyInUse buf) = buf
+fault_buf (RingFull buf) = buf
+fault_buf (NoMemory buf) = buf
+
+-- which refusal it is
+abbrev pub is_key_in_use : Result OpKey StartFault → Bool
+is_key_in_use (Ok key) = false
+is_key_in_use (Err (KeyInUse buf)) = true
+is_key_in_use (Err (RingFull buf)) = false
+is_key_in_use (Err (NoMemory buf)) = false
+
+abbrev pub is_ring_full : Result OpKey StartFault → Bool
+is_ring_full (Ok key) = false
+is_ring_full (Err (KeyInUse buf)) = false
+is_ring_full (Err (RingFull buf)) = true
+is_ring_full (Err (NoMemory buf)) = false
+
+abbrev pub is_no_memory : Result OpKey StartFault → Bool
+is_no_memory (Ok key) = false
+is_no_memory (Err (KeyInUse buf)) = false
+is_no_memory (Err (RingFull buf)) = false
+is_no_memory (Err (NoMemory buf)) = true

@@ -1,0 +1,111 @@
+-- One operation, from its offer to its result.
+use Rattle.std.specs.Prelude.{◌≡◌, ℕ, ◌<◌, Bool, true, false, bit_or, List, [], ◌∷◌, Option, Some, None, is_some, ◌⊎◌}
+use Rattle.uring_entry.specs.declared.squeue.Entry.{Entry}
+use Rattle.uring_entry.specs.declared.buffer.Buf.{Buf}
+use Rattle.uring_entry.specs.declared.events.Taken.{Taken}
+use Rattle.rent_engine.specs.declared.ops.OpPoll.{OpPoll}
+use Rattle.rent_engine.specs.declared.ops.OpPoll.TheVariants as polls
+use Rattle.rent_engine.specs.declared.state.Poll.{Poll}
+use Rattle.rent_engine.specs.declared.state.Poll.TheVariants.{Ready, Pending}
+use Rattle.rent_engine.specs.declared.one_op.Offer.{Offer}
+use Rattle.rent_engine.specs.declared.one_op.Stage.{Stage}
+use Rattle.rent_engine.specs.declared.one_op.Stage.TheVariants.{Offers, Waits, Over}
+use Rattle.rent_engine.specs.declared.one_op.OneAnswer.{OneAnswer}
+use Rattle.rent_engine.specs.declared.one_op.OneAnswer.TheVariants.{Done, InUse, NoMemory, Lost}
+use Rattle.rent_engine.specs.Ops.{Ops, knows, started, polled, taken_out}
+use Rattle.rent_engine.specs.Engines.{asked}
+
+abbrev pub stage_key : Stage → Option ℕ
+stage_key (Offers offer) = None
+stage_key (Waits key) = Some key
+stage_key Over = None
+
+abbrev pub stage_offers : Stage → Bool
+stage_offers (Offers offer) = true
+stage_offers (Waits key) = false
+stage_offers Over = false
+
+abbrev pub stage_over : Stage → Bool
+stage_over (Offers offer) = false
+stage_over (Waits key) = false
+stage_over Over = true
+
+abbrev pub numbered : ℕ → Stage → Stage
+numbered n (Offers offer) = Offers (record offer { number = Some n })
+numbered n (Waits key) = Waits key
+numbered n Over = Over
+
+abbrev pub flagged : ℕ → Stage → Stage
+flagged bits (Offers offer) = Offers (record offer { entry = record offer.entry { flags = bit_or offer.entry.flags bits } })
+flagged bits (Waits key) = Waits key
+flagged bits Over = Over
+
+-- the number that was given, or the least that the engine doesn't know
+abbrev pub IsItsNumber : Option ℕ → Ops → ℕ → Type 0
+IsItsNumber (Some given) ops n = n ≡ given
+IsItsNumber None ops n = (knows ops n ≡ false) × ((k : ℕ) → k < n → knows ops k ≡ true)
+
+-- where a buffer is lent, the loan's number stands as the address
+abbrev pub addressed : ℕ → Option Buf → Entry → Entry
+addressed n None entry = entry
+addressed n (Some buf) entry = record entry { addr = n }
+
+abbrev pub offered_as : Offer → ℕ → Taken
+offered_as offer n = asked n (addressed n offer.buf offer.entry) 0 offer.buf
+
+-- it was started
+pub record Begins (offer : Offer) (n : ℕ) (ops : Ops) (ts : List Taken) (answer : Poll OneAnswer) (after : Ops) (stage : Stage) : Type 0 where
+  pub unknown : knows ops n ≡ false
+  pub entries : ts ≡ offered_as offer n ∷ []
+  pub operations : after ≡ started n (is_some offer.buf) ops
+  pub gives : answer ≡ Pending
+  pub next : stage ≡ Waits n
+
+-- the ring was full
+pub record IsHeld (offer : Offer) (n : ℕ) (ops : Ops) (ts : List Taken) (answer : Poll OneAnswer) (after : Ops) (stage : Stage) : Type 0 where
+  pub unknown : knows ops n ≡ false
+  pub entries : ts ≡ []
+  pub operations : after ≡ ops
+  pub gives : answer ≡ Pending
+  pub next : stage ≡ Offers offer
+
+-- its number was in use
+pub record IsRefused (offer : Offer) (n : ℕ) (ops : Ops) (ts : List Taken) (answer : Poll OneAnswer) (after : Ops) (stage : Stage) : Type 0 where
+  pub known : knows ops n ≡ true
+  pub entries : ts ≡ []
+  pub operations : after ≡ ops
+  pub gives : answer ≡ Ready (InUse offer.buf)
+  pub next : stage ≡ Over
+
+-- there was no memory
+pub record IsLacking (offer : Offer) (n : ℕ) (ops : Ops) (ts : List Taken) (answer : Poll OneAnswer) (after : Ops) (stage : Stage) : Type 0 where
+  pub unknown : knows ops n ≡ false
+  pub entries : ts ≡ []
+  pub operations : after ≡ ops
+  pub gives : answer ≡ Ready (NoMemory offer.buf)
+  pub next : stage ≡ Over
+
+abbrev pub answer_of : OpPoll → Poll OneAnswer
+answer_of (polls.Ready done) = Ready (Done done)
+answer_of (polls.Pending key) = Pending
+answer_of (polls.Lost key) = Ready Lost
+
+abbrev pub stage_after : OpPoll → Stage
+stage_after (polls.Ready done) = Over
+stage_after (polls.Pending key) = Waits key
+stage_after (polls.Lost key) = Over
+
+-- its result was asked for
+pub record IsAskedFor (key : ℕ) (ops : Ops) (ts : List Taken) (answer : Poll OneAnswer) (after : Ops) (stage : Stage) : Type 0 where
+  pub entries : ts ≡ []
+  pub operations : after ≡ taken_out key ops
+  pub gives : answer ≡ answer_of (polled ops key)
+  pub next : stage ≡ stage_after (polled ops key)
+
+-- one poll
+abbrev pub OneStep : Stage → Ops → List Taken → Poll OneAnswer → Ops → Stage → Type 0
+OneStep (Offers offer) ops ts answer after stage =
+    (n : ℕ) × IsItsNumber offer.number ops n
+    × (Begins offer n ops ts answer after stage ⊎ (IsHeld offer n ops ts answer after stage ⊎ (IsRefused offer n ops ts answer after stage ⊎ IsLacking offer n ops ts answer after stage)))
+OneStep (Waits key) ops ts answer after stage = IsAskedFor key ops ts answer after stage
+OneStep Over ops ts answer after stage = ⊥

@@ -1,0 +1,48 @@
+-- What one turn does with the rings, the partner and the operations.
+use Rattle.std.specs.Prelude.{◌≡◌, ℕ, List, [], length, Option, IfSome, IfOk, Result, Ok, Err}
+use Rattle.uring_entry.specs.declared.events.Taken.{Taken}
+use Rattle.uring_entry.specs.declared.events.Completion.{Completion}
+use Rattle.uring_entry.specs.declared.events.LogEvent.{LogEvent}
+use Rattle.uring_model.specs.Partner.{PartnerState}
+use Rattle.uring_ring.specs.declared.setup.Parameters.{Parameters}
+use Rattle.uring_ring.specs.Lists.{Lists, Becomes, all_published}
+use Rattle.uring_submit.specs.declared.error.SubmitError.{SubmitError}
+use Rattle.uring_submit.specs.declared.error.SubmitError.TheVariants as submit
+use Rattle.uring_submit.specs.Decisions.{wanted_call}
+use Rattle.uring_submit.specs.Submits.{EntersOnce}
+use Rattle.rent_engine.specs.declared.ops.EngineFault.{EngineFault}
+use Rattle.rent_engine.specs.declared.ops.EngineFault.TheVariants.{Fault, NoMemory}
+use Rattle.rent_engine.specs.declared.ops.TurnReport.{TurnReport}
+use Rattle.rent_engine.specs.Ops.{Ops}
+use Rattle.rent_engine.specs.Engines.{Pumped, ending, finals_in}
+
+-- A partner's error, handed on. The other two aren't a partner's.
+abbrev pub fault_of : SubmitError → EngineFault
+fault_of submit.Exists = NoMemory
+fault_of submit.NotRegistered = NoMemory
+fault_of (submit.Fault errno) = Fault errno
+fault_of submit.NoMemory = NoMemory
+
+module _ {P R : Type 0} (log : P → Option (List LogEvent)) (state : P → Option PartnerState) (lists : R → Option Lists) (moved : R → List Taken → List Completion → R → Type 0) (flags_word : R → ℕ) (used : R → List Taken → List Completion → R → Type 0) where
+  -- what was offered is published, and the partner enters once, over all that is published, and waits for one completion
+  pub record Submitted (params : Parameters) (old new : P) (before after : R) (result : Result ℕ SubmitError) : Type 0 where
+    pub shown : R
+    pub publishes : used before [] [] shown
+    pub told : Becomes (lists before) all_published (lists shown)
+    pub published : ℕ
+    pub counted : IfSome (lists shown) (λ l. published ≡ length l.published)
+    pub enters : EntersOnce log state lists moved (wanted_call published (flags_word shown) params 1) old new shown after result
+
+  module _ (room waiting : R → ℕ) where
+    -- after an enter that succeeds all is pumped, and the report says how many were taken; after another nothing more is done
+    abbrev pub TurnEnds : Result ℕ SubmitError → R → R → Ops → Ops → Result TurnReport EngineFault → Type 0
+    TurnEnds (Ok taken) left after ops ops' result =
+        (p : Pumped used lists room waiting left after ops ops' (ending result))
+        × IfOk result (λ report. (report.taken ≡ taken) × (report.finals ≡ finals_in p.completions))
+    TurnEnds (Err error) left after ops ops' result = (after ≡ left) × (ops' ≡ ops) × (result ≡ Err (fault_of error))
+
+    pub record Turned (params : Parameters) (old new : P) (before after : R) (ops ops' : Ops) (result : Result TurnReport EngineFault) : Type 0 where
+      pub left : R
+      pub answer : Result ℕ SubmitError
+      pub submitted : Submitted params old new before left answer
+      pub ends : TurnEnds answer left after ops ops' result

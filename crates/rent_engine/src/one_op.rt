@@ -1,0 +1,225 @@
+//! One operation, from its offer to its result.
+
+ghost use Rattle.std.specs.Prelude.{◌≡◌, ◌+◌, ◌≤◌, ℕ, not, false, List, None};
+ghost use Rattle.uring_entry.specs.declared.events.Taken.{Taken};
+ghost use Rattle.uring_entry.specs.FlagBits.{bits_in};
+ghost use Rattle.rent_engine.specs.Engines.{Offered};
+ghost use Rattle.rent_engine.specs.OneOp.{addressed, numbered, flagged, stage_key, stage_offers, stage_over, IsItsNumber, OneStep};
+ghost use Rattle.rent_engine.specs.States.{is_pending, waits_on, KeepsInFlight};
+
+use crate::engine::Engine;
+use crate::ops::{OpDone, OpKey, OpPoll, StartFault};
+use crate::state::{OpState, Poll};
+use std::alloc::Global;
+use std::marker::Model;
+use std::mem;
+use uring_entry::Buf;
+use uring_entry::squeue::{Entry, Flags};
+use uring_ring::UserEnds;
+
+/// An operation that is still to be offered: its number, if one was given, its entry, and the
+/// buffer that it lends.
+#[derive(Drop)]
+pub struct Offer {
+    pub number: Option<u64>,
+    pub entry: Entry,
+    pub buf: Option<Buf>,
+}
+
+/// How far an operation has come.
+#[derive(Drop)]
+pub enum Stage {
+    Offers(Offer),
+    Waits(OpKey),
+    Over,
+}
+
+/// What became of an operation. A buffer that wasn't lent comes back.
+#[derive(Drop)]
+pub enum OneAnswer {
+    Done(OpDone),
+    /// Its number is in use.
+    InUse(Option<Buf>),
+    NoMemory(Option<Buf>),
+    /// The engine doesn't know its key.
+    Lost,
+}
+
+/// The state of one operation: it is offered as soon as there is room, and then waits for its
+/// result. Without a number of its own it takes the least that is free. Where it lends a buffer,
+/// the loan's number is its entry's address.
+#[derive(Drop)]
+pub struct OneOp {
+    stage: Stage,
+}
+
+impl Model for OneOp {
+    ghost use Rattle.rent_engine.specs.declared.one_op.Stage.{Stage};
+
+    ghost Value = { Stage };
+
+    ghost view = { λ op. op.stage };
+}
+
+impl OneOp {
+    pub fn new(entry: Entry, buf: Option<Buf>) -> OneOp
+        ensures { result ≡ Stage.Offers (record { number = None; entry = entry; buf = buf }) }
+    {
+        OneOp {
+            stage: Stage::Offers(Offer {
+                number: None,
+                entry,
+                buf,
+            }),
+        }
+    }
+
+    /// The same under that number, where it is still to be offered.
+    pub fn with_number(self, number: u64) -> OneOp
+        ensures { result ≡ numbered number self }
+    {
+        match self.stage {
+            Stage::Offers(
+                Offer {
+                    number: _,
+                    entry,
+                    buf,
+                },
+            ) => OneOp {
+                stage: Stage::Offers(Offer {
+                    number: Some(number),
+                    entry,
+                    buf,
+                }),
+            },
+            stage => OneOp { stage },
+        }
+    }
+
+    /// The same with these flags added to its entry, where it is still to be offered.
+    pub fn with_flags(self, flags: Flags) -> OneOp
+        ensures { result ≡ flagged (bits_in flags) self }
+    {
+        match self.stage {
+            Stage::Offers(Offer { number, entry, buf }) => OneOp {
+                stage: Stage::Offers(Offer {
+                    number,
+                    entry: entry.flags(flags),
+                    buf,
+                }),
+            },
+            stage => OneOp { stage },
+        }
+    }
+
+    fn begin<R: UserEnds>(
+        &mut self,
+        alloc: Global,
+        engine: &mut Engine<R>,
+        offer: Offer,
+    ) -> Poll<OneAnswer>
+        requires { self.old ≡ Stage.Over }
+        ensures polls { (ts : List Taken) × Offered R.used R.lists R.room R.waiting engine.old.ring ts engine.new.ring
+            × OneStep (Stage.Offers offer) engine.old.ops ts result engine.new.ops self.new }
+        ensures pending { is_pending result ≡ waits_on (stage_key self.new) (stage_offers self.new) engine.new.ops (R.room engine.new.ring) }
+        ensures done { stage_over self.new ≡ not (is_pending result) }
+        ensures in_flight { KeepsInFlight engine.old.ops engine.new.ops }
+        ensures free { R.room engine.new.ring ≤ R.room engine.old.ring }
+        ensures spare { engine.old.spare ≤ engine.new.spare + 1 }
+        ensures params { engine.new.params ≡ engine.old.params }
+    {
+        let Offer {
+            number: given,
+            entry,
+            buf,
+        } = offer;
+        let number = its_number(given, engine);
+        let asked = addressed(entry, number, &buf);
+        match engine.start(alloc, number, asked, 0, buf) {
+            Ok(key) => {
+                self.stage = Stage::Waits(key);
+                Poll::Pending
+            }
+            Err(StartFault::RingFull(buf)) => {
+                self.stage = Stage::Offers(Offer {
+                    number: given,
+                    entry,
+                    buf,
+                });
+                Poll::Pending
+            }
+            Err(StartFault::KeyInUse(buf)) => Poll::Ready(OneAnswer::InUse(buf)),
+            Err(StartFault::NoMemory(buf)) => Poll::Ready(OneAnswer::NoMemory(buf)),
+        }
+    }
+
+    fn look<R: UserEnds>(&mut self, engine: &mut Engine<R>, key: OpKey) -> Poll<OneAnswer>
+        requires { self.old ≡ Stage.Over }
+        ensures polls { (ts : List Taken) × Offered R.used R.lists R.room R.waiting engine.old.ring ts engine.new.ring
+            × OneStep (Stage.Waits key) engine.old.ops ts result engine.new.ops self.new }
+        ensures pending { is_pending result ≡ waits_on (stage_key self.new) (stage_offers self.new) engine.new.ops (R.room engine.new.ring) }
+        ensures done { stage_over self.new ≡ not (is_pending result) }
+        ensures in_flight { KeepsInFlight engine.old.ops engine.new.ops }
+        ensures free { R.room engine.new.ring ≤ R.room engine.old.ring }
+        ensures spare { engine.old.spare ≤ engine.new.spare + 1 }
+        ensures params { engine.new.params ≡ engine.old.params }
+    {
+        match engine.poll(key) {
+            OpPoll::Pending(key) => {
+                self.stage = Stage::Waits(key);
+                Poll::Pending
+            }
+            OpPoll::Lost(_) => Poll::Ready(OneAnswer::Lost),
+            OpPoll::Ready(done) => Poll::Ready(OneAnswer::Done(done)),
+        }
+    }
+}
+
+impl OpState for OneOp {
+    ghost use Rattle.rent_engine.specs.OneOp.{stage_key, stage_offers, stage_over, OneStep};
+
+    type Output = OneAnswer;
+
+    ghost key = { stage_key };
+
+    ghost offers = { stage_offers };
+
+    ghost done = { stage_over };
+
+    ghost polls = { OneStep };
+
+    fn poll<R: UserEnds>(&mut self, alloc: Global, engine: &mut Engine<R>) -> Poll<OneAnswer> {
+        match mem::replace(&mut self.stage, Stage::Over) {
+            Stage::Offers(offer) => self.begin(alloc, engine, offer),
+            Stage::Waits(key) => self.look(engine, key),
+            Stage::Over => unreachable!(),
+        }
+    }
+
+    fn is_done(&self) -> bool {
+        matches!(self.stage, Stage::Over)
+    }
+}
+
+/// The number that was given, or the least that is free.
+fn its_number<R: UserEnds>(given: Option<u64>, engine: &Engine<R>) -> u64
+    ensures { IsItsNumber given engine.now.ops result }
+{
+    match given {
+        Some(number) => number,
+        None => engine.fresh(),
+    }
+}
+
+/// The entry of an operation under that number.
+fn addressed(entry: Entry, number: u64, buf: &Option<Buf>) -> Entry
+    ensures { result ≡ addressed number buf.now entry }
+{
+    match buf {
+        Some(_) => Entry {
+            addr: number,
+            ..entry
+        },
+        None => entry,
+    }
+}

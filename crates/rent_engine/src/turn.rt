@@ -1,0 +1,76 @@
+//! One turn with a partner.
+
+ghost use Rattle.std.specs.Prelude.{◌≡◌, ◌≤◌, ◌^◌, ◌<◌, true, IfErr, IfOk, IfSome, IsTrue, OnOk, Contains};
+ghost use Rattle.uring_entry.specs.Causes.{HasCause};
+ghost use Rattle.uring_partner.specs.Calls.{later_plan};
+ghost use Rattle.uring_submit.specs.Errors.{is_fault as is_submit_fault, is_of_partner};
+ghost use Rattle.rent_engine.specs.Engines.{is_fault};
+ghost use Rattle.rent_engine.specs.Turns.{Turned, Submitted, fault_of};
+
+use crate::engine::Engine;
+use crate::ops::{EngineFault, TurnReport};
+use std::alloc::Global;
+use uring_partner::Partner;
+use uring_ring::{PartnerSide, UserEnds};
+use uring_submit::SubmitError;
+
+impl<R: UserEnds + PartnerSide> Engine<R> {
+    /// Shows the partner what was offered, has it enter once and wait for one completion, and
+    /// completes what it posted, as `pump` does.
+    pub fn turn<P: Partner>(
+        &mut self,
+        alloc: Global,
+        partner: &mut P,
+    ) -> Result<TurnReport, EngineFault>
+        ensures turned { Turned P.log P.state R.lists R.moved R.flags_word R.used R.room R.waiting self.old.params partner.old partner.new self.old.ring self.new.ring self.old.ops self.new.ops result }
+        ensures none_left { OnOk result (R.waiting self.new.ring ≡ 0) }
+        ensures cause { HasCause is_fault (P.faults partner.old) (P.faults partner.new) result }
+        ensures planned { IfSome (P.state partner.old) (λ _. IfErr result (λ fault. IsTrue (is_fault fault) → Contains (P.plan partner.old) 1)) }
+        ensures counted { IfSome (P.state partner.old) (λ _. ¬ Contains (P.plan partner.old) 1 → P.faults partner.new ≡ P.faults partner.old) }
+        ensures plan { P.plan partner.new ≡ later_plan (P.plan partner.old) }
+        ensures spare { self.old.spare ≤ self.new.spare }
+        ensures params { self.new.params ≡ self.old.params }
+    {
+        let taken = match self.submit(alloc, partner) {
+            Ok(taken) => taken,
+            Err(error) => return Err(fault_of(error)),
+        };
+        match self.pump(alloc) {
+            Ok(report) => Ok(TurnReport {
+                taken: taken as u32,
+                finals: report.finals,
+            }),
+            Err(fault) => Err(fault),
+        }
+    }
+
+    /// Shows the partner what was offered, and has it enter once.
+    fn submit<P: Partner>(&mut self, alloc: Global, partner: &mut P) -> Result<usize, SubmitError>
+        ensures submitted { Submitted P.log P.state R.lists R.moved R.flags_word R.used self.old.params partner.old partner.new self.old.ring self.new.ring result }
+        ensures cause { HasCause is_submit_fault (P.faults partner.old) (P.faults partner.new) result }
+        ensures planned { IfSome (P.state partner.old) (λ _. IfErr result (λ e. IsTrue (is_submit_fault e) → Contains (P.plan partner.old) 1)) }
+        ensures counted { IfSome (P.state partner.old) (λ _. ¬ Contains (P.plan partner.old) 1 → P.faults partner.new ≡ P.faults partner.old) }
+        ensures plan { P.plan partner.new ≡ later_plan (P.plan partner.old) }
+        ensures errors { IfErr result (λ e. is_of_partner e ≡ true) }
+        ensures fits { IfOk result (λ n. n < 2 ^ 32) }
+        ensures ops { self.new.ops ≡ self.old.ops }
+        ensures spare { self.new.spare ≡ self.old.spare }
+        ensures params { self.new.params ≡ self.old.params }
+    {
+        self.ring.publish();
+        self.submitter
+            .submit_and_wait(alloc, &mut self.ring, partner, 1)
+    }
+}
+
+/// The fault of an error that a partner answered.
+fn fault_of(error: SubmitError) -> EngineFault
+    requires { is_of_partner error ≡ true }
+    ensures { result ≡ fault_of error }
+{
+    match error {
+        SubmitError::Fault(errno) => EngineFault::Fault(errno),
+        SubmitError::NoMemory => EngineFault::NoMemory,
+        SubmitError::Exists | SubmitError::NotRegistered => unreachable!(),
+    }
+}
