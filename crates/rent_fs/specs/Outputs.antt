@@ -1,0 +1,60 @@
+-- What a read or a write gives.
+use Rattle.std.specs.Prelude.{◌≡◌, ℕ, ◌+◌, ◌≤◌, ℤ, pos, negsuc, List, [], Option, Some, None, Result, Ok, Err}
+use Rattle.uring_entry.specs.declared.events.Taken.{Taken}
+use Rattle.rent_engine.specs.declared.state.Poll.{Poll}
+use Rattle.rent_engine.specs.declared.state.Poll.TheVariants.{Ready, Pending}
+use Rattle.rent_engine.specs.declared.one_op.Stage.{Stage}
+use Rattle.rent_engine.specs.declared.one_op.OneAnswer.{OneAnswer}
+use Rattle.rent_engine.specs.declared.one_op.OneAnswer.TheVariants.{Done, InUse, NoMemory, Lost}
+use Rattle.rent_engine.specs.Ops.{Ops}
+use Rattle.rent_engine.specs.OneOp.{OneStep}
+use Rattle.rent_engine.specs.States.{poll_map}
+use Rattle.rent_fs.specs.declared.error.FsError.{FsError}
+use Rattle.rent_fs.specs.declared.error.FsError.TheVariants as errors
+
+-- the errno of an operation that failed, and 0 for another fault
+abbrev pub errno_of : FsError → ℕ
+errno_of (errors.Os errno) = errno
+errno_of errors.UnexpectedEof = 0
+errno_of errors.WriteZero = 0
+errno_of errors.Interrupted = 0
+errno_of errors.BadCount = 0
+errno_of errors.WholeTree = 0
+errno_of errors.NoBirthTime = 0
+errno_of errors.KeyInUse = 0
+errno_of errors.KeyLost = 0
+errno_of errors.NoMemory = 0
+
+-- a count, or the errno of a negative result
+abbrev pub counted : ℤ → Result ℕ FsError
+counted (pos n) = Ok n
+counted (negsuc n) = Err (errors.Os (n + 1))
+
+-- a count, or an errno, that a result of 32 bits tells
+abbrev pub IsSmall : Result ℕ FsError → Type 0
+IsSmall (Ok n) = n ≤ 2147483647
+IsSmall (Err e) = errno_of e ≤ 2147483648
+
+abbrev pub or_empty : Option (List ℕ) → List ℕ
+or_empty None = []
+or_empty (Some buf) = buf
+
+-- a result without the buffer that was lent is lost
+abbrev pub with_buf : ℤ → Option (List ℕ) → Result ℕ FsError × List ℕ
+with_buf result None = (Err errors.KeyLost, [])
+with_buf result (Some buf) = (counted result, buf)
+
+-- the output of an operation that lent a buffer
+abbrev pub moved : OneAnswer → Result ℕ FsError × List ℕ
+moved (Done done) = with_buf done.result done.buf
+moved (InUse buf) = (Err errors.KeyInUse, or_empty buf)
+moved (NoMemory buf) = (Err errors.NoMemory, or_empty buf)
+moved Lost = (Err errors.KeyLost, [])
+
+-- a poll is one of the state's operation, and gives the output of that one's answer
+abbrev pub MovesPolls : Stage → Ops → List Taken → Poll (Result ℕ FsError × List ℕ) → Ops → Stage → Type 0
+MovesPolls stage ops ts answer after next = (one : Poll OneAnswer) × (answer ≡ poll_map moved one) × OneStep stage ops ts one after next
+
+abbrev pub IfReady : {T : Type 0} → Poll T → (T → Type 0) → Type 0
+IfReady (Ready answer) P = P answer
+IfReady Pending P = Unit {0}

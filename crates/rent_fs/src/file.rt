@@ -1,0 +1,56 @@
+//! Files by number.
+
+ghost use Rattle.std.specs.Prelude.{◌≡◌, ◌+◌, ◌^◌, ◌<◌, ◌≤◌, ℕ, None, Some, length};
+ghost use Rattle.rent_engine.specs.declared.one_op.Stage.TheVariants.{Offers};
+ghost use Rattle.rent_engine.specs.OneOp.{addressed};
+ghost use Rattle.rent_fs.specs.Entries.{read_entry, write_entry};
+
+use crate::read_at::ReadAt;
+use crate::write_at::WriteAt;
+use uring_entry::Buf;
+
+/// A file that a partner has under a number.
+#[derive(Clone, Copy, PartialEq, Eq, Debug)]
+pub struct File {
+    number: u32,
+}
+
+impl File {
+    ghost use Rattle.rent_fs.specs.Files.{number_of};
+
+    /// The file under that number.
+    pub fn of_number(number: u32) -> File
+        ensures { number_of result ≡ number }
+    {
+        File { number }
+    }
+
+    /// Its number.
+    pub fn number(&self) -> u32
+        ensures { result ≡ number_of self.now }
+    {
+        self.number
+    }
+
+    /// Reads from a position into a buffer, as many bytes as come. Nothing is asked for until the
+    /// state is polled.
+    pub fn read_at(&self, buf: Buf, pos: u64) -> ReadAt
+        requires small { length buf ≤ 2147483647 }
+        requires fits { pos + length buf < 2 ^ 64 }
+        ensures offers { result ≡ Offers (record { number = None; entry = read_entry (number_of self.now) 0 (length buf) pos; buf = Some buf }) }
+        ensures entry { (n : ℕ) → addressed n (Some buf) (read_entry (number_of self.now) 0 (length buf) pos) ≡ read_entry (number_of self.now) n (length buf) pos }
+    {
+        ReadAt::new(self.number, buf, pos)
+    }
+
+    /// Writes a buffer at a position, as many bytes as are taken. Nothing is asked for until the
+    /// state is polled.
+    pub fn write_at(&self, buf: Buf, pos: u64) -> WriteAt
+        requires small { length buf ≤ 2147483647 }
+        requires fits { pos + length buf < 2 ^ 64 }
+        ensures offers { result ≡ Offers (record { number = None; entry = write_entry (number_of self.now) 0 (length buf) pos; buf = Some buf }) }
+        ensures entry { (n : ℕ) → addressed n (Some buf) (write_entry (number_of self.now) 0 (length buf) pos) ≡ write_entry (number_of self.now) n (length buf) pos }
+    {
+        WriteAt::new(self.number, buf, pos)
+    }
+}
