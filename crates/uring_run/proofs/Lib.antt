@@ -1,4 +1,8 @@
 pub mod SlotLemmas
+pub mod FlightLemmas
+pub mod LentLemmas
+pub mod StartLemmas
+pub mod PumpLemmas
 pub mod EntryLemmas
 pub mod RingLemmas
 pub mod LandLemmas

@@ -82,17 +82,16 @@ pub record Called (n k started capacity : ℕ) (ms : List Move) : Type 0 where
   pub all : k + p ≡ started
   pub full : (p ≡ capacity) ⊎ (k + p ≡ n)
 
-called_turn : (b l : Lists) (at : Lists) (ts todo todo' : List Taken) (ms : List Move) (n k started started' : ℕ) → b ≡ l → at ≡ all_published (pushed_more ts b) → HasRoom at → l.pushed ≡ [] → todo ≡ ts ++ todo' → (todo' ≡ []) ⊎ (free_of (pushed_more ts b) ≡ 0)
-    → k + length (l.published ++ todo) ≡ n → started ≡ k + length l.published → started' + length todo' ≡ started + length todo → IsTurn 4294967295 (Some at) ms → Called n k started' l.capacity ms
-called_turn b l at ts todo todo' ms n k started started' eb ea room none split full here st count t =
+called_turn : (asked : ℕ) (b l : Lists) (at : Lists) (ts todo todo' : List Taken) (ms : List Move) (n k started started' : ℕ) → b ≡ l → at ≡ all_published (pushed_more ts b) → HasRoom at → l.pushed ≡ [] → todo ≡ ts ++ todo' → (todo' ≡ []) ⊎ (free_of (pushed_more ts b) ≡ 0)
+    → k + length (l.published ++ todo) ≡ n → started ≡ k + length l.published → started' + length todo' ≡ started + length todo → length at.published ≤ asked → IsTurn asked (Some at) ms → Called n k started' l.capacity ms
+called_turn asked b l at ts todo todo' ms n k started started' eb ea room none split full here st count enough t =
     let ab : at ≡ all_published (pushed_more ts l) = ea ∙ ap (λ x. all_published (pushed_more ts x)) eb in
     let pub_at : length at.published ≡ length l.published + length ts = ap (λ x. length x.published) ab ∙ length-append l.published (l.pushed ++ ts) ∙ ap (λ x. length l.published + length (x ++ ts)) none in
     let cap : at.capacity ≡ l.capacity = ap (λ x. x.capacity) ab in
     let todos : length todo ≡ length ts + length todo' = ap length split ∙ length-append ts todo' in
     let whole : k + (length l.published + length todo) ≡ n = ap (λ x. k + x) (sym (length-append l.published todo)) ∙ here in
     let fits : length at.published + length at.pushed ≤ at.capacity = room.entries in
-    let small : at.capacity ≤ 32768 = room.small in
-    let number : t.p ≡ length at.published = omega (arith, t.told, fits, small) in
+    let number : t.p ≡ length at.published = omega (arith, t.told, enough) in
     record {
       p = t.p;
       rest = t.rest;
@@ -163,12 +162,12 @@ counts offers ms published todo e =
     ap (λ x. length (took ms) + x) (sym (length-append published todo))
     ∙ sym (length-append (took ms) (published ++ todo)) ∙ ap length e ∙ entries-length offers
 
-called_or : (entered : Bool) (b l at : Lists) (ts todo todo' : List Taken) (ms : List Move) (n k started started' : ℕ) → b ≡ l → at ≡ all_published (pushed_more ts b) → HasRoom at → l.pushed ≡ [] → todo ≡ ts ++ todo' → (todo' ≡ []) ⊎ (free_of (pushed_more ts b) ≡ 0)
-    → k + length (l.published ++ todo) ≡ n → started ≡ k + length l.published → started' + length todo' ≡ started + length todo → IsCall entered 4294967295 (Some at) ms → (ms ≡ []) ⊎ Called n k started' l.capacity ms
-called_or true b l at ts todo todo' ms n k started started' eb ea room none split full here st count t = inr (called_turn b l at ts todo todo' ms n k started started' eb ea room none split full here st count t)
-called_or false b l at ts todo todo' ms n k started started' eb ea room none split full here st count t = elim t [
+called_or : (asked : ℕ) (entered : Bool) (b l at : Lists) (ts todo todo' : List Taken) (ms : List Move) (n k started started' : ℕ) → b ≡ l → at ≡ all_published (pushed_more ts b) → HasRoom at → l.pushed ≡ [] → todo ≡ ts ++ todo' → (todo' ≡ []) ⊎ (free_of (pushed_more ts b) ≡ 0)
+    → k + length (l.published ++ todo) ≡ n → started ≡ k + length l.published → started' + length todo' ≡ started + length todo → length at.published ≤ asked → IsCall entered asked (Some at) ms → (ms ≡ []) ⊎ Called n k started' l.capacity ms
+called_or asked true b l at ts todo todo' ms n k started started' eb ea room none split full here st count enough t = inr (called_turn asked b l at ts todo todo' ms n k started started' eb ea room none split full here st count enough t)
+called_or asked false b l at ts todo todo' ms n k started started' eb ea room none split full here st count enough t = elim t [
   | inl e ↦ inl e
-  | inr u ↦ inr (called_turn b l at ts todo todo' ms n k started started' eb ea room none split full here st count u)
+  | inr u ↦ inr (called_turn asked b l at ts todo todo' ms n k started started' eb ea room none split full here st count enough u)
 ]
 
 call_busy : (c n k started : ℕ) (ms : List Move) → (ms ≡ []) ⊎ Called n k started c ms → IsBusy c n k (journal_of (log_of ms))
@@ -222,12 +221,12 @@ next_entries log state lists kept first now new from to room todo todo' started 
 next_called : {P R : Type 0} (log : P → Option (List LogEvent)) (state : P → Option PartnerState) (lists : R → Option Lists) (kept : Completion → Completion) (first now new : P) (from to : R) (room : ℕ) (todo todo' : List Taken) (started started' : ℕ) (slots slots' : List Slot) (offers : List Offer) (capacity idle quiet : ℕ) (answer : Result Bool RunFault) (x : Next log state lists kept first now new from to room todo todo' started started' slots slots' offers capacity idle quiet answer) → (x.round.ms ≡ []) ⊎ Called (length offers) (length (took x.run.ms)) started' x.run.l.capacity x.round.ms
 next_called log state lists kept first now new from to room todo todo' started started' slots slots' offers capacity idle quiet answer x =
     let here : length (took x.run.ms) + length (x.run.l.published ++ todo) ≡ length offers = ap (λ y. length (took x.run.ms) + y) (length-append x.run.l.published todo) ∙ counts offers x.run.ms x.run.l.published todo x.run.entries in
-    called_or x.round.entered x.round.before x.run.l x.round.at x.round.ts todo todo' x.round.ms (length offers) (length (took x.run.ms)) started started' (same_lists log state lists kept first now new from to room todo todo' started started' slots slots' offers capacity idle quiet answer x) x.round.published x.round.fits x.run.calm.pushed x.round.offered x.round.full here x.run.started_is x.count x.round.call
+    called_or x.round.asked x.round.entered x.round.before x.run.l x.round.at x.round.ts todo todo' x.round.ms (length offers) (length (took x.run.ms)) started started' (same_lists log state lists kept first now new from to room todo todo' started started' slots slots' offers capacity idle quiet answer x) x.round.published x.round.fits x.run.calm.pushed x.round.offered x.round.full here x.run.started_is x.count x.round.enough x.round.call
 
 next_entered : {P R : Type 0} (log : P → Option (List LogEvent)) (state : P → Option PartnerState) (lists : R → Option Lists) (kept : Completion → Completion) (first now new : P) (from to : R) (room : ℕ) (todo todo' : List Taken) (started started' : ℕ) (slots slots' : List Slot) (offers : List Offer) (capacity idle quiet : ℕ) (answer : Result Bool RunFault) (x : Next log state lists kept first now new from to room todo todo' started started' slots slots' offers capacity idle quiet answer) → x.round.entered ≡ true → Called (length offers) (length (took x.run.ms)) started' x.run.l.capacity x.round.ms
 next_entered log state lists kept first now new from to room todo todo' started started' slots slots' offers capacity idle quiet answer x e =
     let here : length (took x.run.ms) + length (x.run.l.published ++ todo) ≡ length offers = ap (λ y. length (took x.run.ms) + y) (length-append x.run.l.published todo) ∙ counts offers x.run.ms x.run.l.published todo x.run.entries in
-    called_turn x.round.before x.run.l x.round.at x.round.ts todo todo' x.round.ms (length offers) (length (took x.run.ms)) started started' (same_lists log state lists kept first now new from to room todo todo' started started' slots slots' offers capacity idle quiet answer x) x.round.published x.round.fits x.run.calm.pushed x.round.offered x.round.full here x.run.started_is x.count (subst (λ b. IsCall b 4294967295 (Some x.round.at) x.round.ms) e x.round.call)
+    called_turn x.round.asked x.round.before x.run.l x.round.at x.round.ts todo todo' x.round.ms (length offers) (length (took x.run.ms)) started started' (same_lists log state lists kept first now new from to room todo todo' started started' slots slots' offers capacity idle quiet answer x) x.round.published x.round.fits x.run.calm.pushed x.round.offered x.round.full here x.run.started_is x.count x.round.enough (subst (λ b. IsCall b x.round.asked (Some x.round.at) x.round.ms) e x.round.call)
 
 next_busy : {P R : Type 0} (log : P → Option (List LogEvent)) (state : P → Option PartnerState) (lists : R → Option Lists) (kept : Completion → Completion) (first now new : P) (from to : R) (room : ℕ) (todo todo' : List Taken) (started started' : ℕ) (slots slots' : List Slot) (offers : List Offer) (capacity idle quiet : ℕ) (answer : Result Bool RunFault) (x : Next log state lists kept first now new from to room todo todo' started started' slots slots' offers capacity idle quiet answer) → IsBusy capacity (length offers) 0 (journal_of (log_of (x.run.ms ++ x.round.ms)))
 next_busy log state lists kept first now new from to room todo todo' started started' slots slots' offers capacity idle quiet answer x =
@@ -411,6 +410,12 @@ stalled_end log state lists first now ring room todo started slots offers capaci
         unanswered = same_final j.0 x.ms ∙ ap (λ k. final_of k (posted x.ms)) (omega arith) ∙ j.2;
       },
     )
+
+-- while a job is open, the turns so far are few
+pub few_open : {P R : Type 0} (log : P → Option (List LogEvent)) (state : P → Option PartnerState) (lists : R → Option Lists) (first now : P) (ring : R) (room : ℕ) (todo : List Taken) (started : ℕ) (slots : List Slot) (offers : List Offer) (capacity idle quiet : ℕ)
+    → (x : Running log state lists first now ring room todo started slots offers capacity idle quiet) → 0 < count_open slots → quiet < idle → turns x.ms ≤ idle * length offers
+few_open log state lists first now ring room todo started slots offers capacity idle quiet x left waits =
+    let h = few_last idle (length offers) (turns x.ms) (count_open slots) quiet 0 x.few left (omega (arith, waits)) (omega arith) in omega (arith, h)
 
 pub whole_end : {P R : Type 0} (log : P → Option (List LogEvent)) (state : P → Option PartnerState) (lists : R → Option Lists) (first now : P) (ring : R) (room : ℕ) (todo : List Taken) (started : ℕ) (slots : List Slot) (offers : List Offer) (capacity idle quiet : ℕ)
     → (x : Running log state lists first now ring room todo started slots offers capacity idle quiet) → count_open slots ≡ 0 → turns x.ms ≤ idle * length offers

@@ -1,5 +1,5 @@
 -- Slots and their counts.
-use Rattle.std.proofs.Common.{◌≡◌, ℕ, zero, suc, ◌<◌, Bool, true, false, ◌||◌, not, nat_lt, List, [], ◌∷◌, length, Option, Some, None, slice_get, slice_set, refl, ap, arith}
+use Rattle.std.proofs.Common.{◌≡◌, ℕ, zero, suc, Bool, true, false, ◌||◌, not, nat_lt, List, [], ◌∷◌, length, Option, Some, None, slice_get, slice_set, refl, ap}
 use Rattle.uring_entry.specs.declared.events.Completion.{Completion}
 use Rattle.uring_model.specs.declared.jobs.Job.{Job}
 use Rattle.uring_model.specs.declared.jobs.Outcome.{Outcome}
@@ -31,9 +31,3 @@ open_at (Some (Open lends)) c e = (lends, refl)
 -- a completion that is no stranger finds its job started and open
 pub due_open : (started : ℕ) (slots : List Slot) (c : Completion) → is_stranger started slots c ≡ false → (lends : Bool) × (slice_get slots c.user_data ≡ Some (Open lends))
 due_open started slots c e = open_at (slice_get slots c.user_data) c (or_parts (not (nat_lt c.user_data started)) (is_strange_at (slice_get slots c.user_data) c) e).1
-
--- an open slot stands inside
-pub place_of_open : (slots : List Slot) (j : ℕ) (s : Slot) → slice_get slots j ≡ Some s → j < length slots
-place_of_open [] j s e = cc
-place_of_open (x ∷ xs) zero s e = omega arith
-place_of_open (x ∷ xs) (suc j) s e = omega (arith, place_of_open xs j s e)

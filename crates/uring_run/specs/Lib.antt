@@ -1,6 +1,9 @@
 pub mod Entries
 pub mod Told
 pub mod Slots
+pub mod JobOps
+pub mod Flights
+pub mod Steps
 pub mod Rounds
 pub mod Driven
 pub mod Memory

@@ -1,5 +1,5 @@
 -- What one round of a run does to the ring, the partner and the table.
-use Rattle.std.specs.Prelude.{◌≡◌, ◌⊎◌, ℕ, Bool, true, false, List, [], ◌++◌, map, Result, Ok, Err, Option, Some, None}
+use Rattle.std.specs.Prelude.{◌≡◌, ◌≤◌, ◌⊎◌, ℕ, Bool, true, false, List, [], ◌++◌, length, map, Result, Ok, Err, Option, Some, None}
 use Rattle.std.specs.Bool.{OnTrue}
 use Rattle.uring_entry.specs.declared.events.Taken.{Taken}
 use Rattle.uring_entry.specs.declared.events.Completion.{Completion}
@@ -11,6 +11,8 @@ use Rattle.uring_model.specs.Partner.{PartnerState, IsServed}
 use Rattle.uring_ring.specs.Lists.{Lists, HasRoom, all_published, free_of}
 use Rattle.uring_partner.specs.declared.call.PartnerError.{PartnerError}
 use Rattle.uring_partner.specs.declared.call.PartnerError.TheVariants as errors
+use Rattle.rent_engine.specs.declared.ops.EngineFault.{EngineFault}
+use Rattle.rent_engine.specs.declared.ops.EngineFault.TheVariants as faults
 use Rattle.uring_partner.specs.Calls.{IsCall, IsWholeTurn}
 use Rattle.uring_run.specs.declared.slot.Slot.{Slot}
 use Rattle.uring_run.specs.Slots.{land_all, stranger_among, any_final}
@@ -19,23 +21,22 @@ use Rattle.uring_run.specs.Slots.{land_all, stranger_among, any_final}
 abbrev pub pushed_more : List Taken → Lists → Lists
 pushed_more ts l = record l { pushed = l.pushed ++ ts }
 
--- these completions were reaped
-pub record Reaped (cs : List Completion) (before after : Lists) : Type 0 where
-  pub completions : before.completions ≡ cs ++ after.completions
-  pub published : after.published ≡ before.published
-  pub pushed : after.pushed ≡ before.pushed
-  pub capacity : after.capacity ≡ before.capacity
-  pub completion_capacity : after.completion_capacity ≡ before.completion_capacity
-
 -- nothing stands in the rings but what is published, and the user sees how much fits
 pub record IsCalm (l : Lists) (room : ℕ) : Type 0 where
   pub pushed : l.pushed ≡ []
   pub completions : l.completions ≡ []
   pub seen : room ≡ free_of l
 
+-- the fault of a run, by a partner's error, and by an engine's
+
 abbrev pub fault_of : PartnerError → RunFault
 fault_of (errors.Fault errno) = PartnerFault
 fault_of errors.NoMemory = NoMemory
+
+abbrev pub engine_fault : EngineFault → RunFault
+engine_fault (faults.Stranger u) = Stranger u
+engine_fault (faults.Fault errno) = PartnerFault
+engine_fault faults.NoMemory = NoMemory
 
 abbrev pub is_partner_fault : RunFault → Bool
 is_partner_fault BadSize = false
@@ -79,7 +80,8 @@ RoundEnds started slots cs slots' entered (Err BadSize) = ⊥
 RoundEnds started slots cs slots' entered (Err (BadJob n)) = ⊥
 RoundEnds started slots cs slots' entered (Err Stalled) = ⊥
 
--- A round offers entries until the ring is full or none is left, publishes, enters once, and reaps all that was posted.
+-- A round offers entries until the ring is full or none is left, publishes, enters once, over all that is published, and
+-- reaps all that was posted.
 pub record Round {P R : Type 0} (log : P → Option (List LogEvent)) (state : P → Option PartnerState) (lists : R → Option Lists) (kept : Completion → Completion) (old new : P) (from to : R) (todo todo' : List Taken) (started : ℕ) (slots slots' : List Slot) (answer : Result Bool RunFault) : Type 0 where
   pub ts : List Taken
   pub ms : List Move
@@ -95,7 +97,9 @@ pub record Round {P R : Type 0} (log : P → Option (List LogEvent)) (state : P 
   pub fits : HasRoom at
   pub logs : IsLogged (log old) ms (log new)
   pub states : IsServed (state old) ms (state new)
-  pub call : IsCall entered 4294967295 (Some at) ms
+  pub asked : ℕ
+  pub enough : length at.published ≤ asked
+  pub call : IsCall entered asked (Some at) ms
   pub whole : OnTrue entered (IsWholeTurn (state old) (Some at) ms)
   pub taken : at.published ≡ took ms ++ after.published
   pub pushed : after.pushed ≡ []

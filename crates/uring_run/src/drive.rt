@@ -11,10 +11,12 @@ ghost use Rattle.uring_run.specs.Entries.{lends_in};
 ghost use Rattle.uring_run.specs.Rounds.{IsCalm, is_partner_fault, is_stall};
 ghost use Rattle.uring_run.specs.Driven.{Driven, IsGivenUp};
 ghost use Rattle.uring_run.specs.Slots.{count_open, slots_from};
+ghost use Rattle.uring_run.specs.Flights.{IsSettled};
 
 use crate::offers::Offers;
 use crate::round::round;
 use crate::table::Table;
+use rent_engine::Engine;
 use std::alloc::Global;
 use uring_model::RunFault;
 use uring_partner::Partner;
@@ -33,16 +35,17 @@ fn quiet_after(fin: bool, quiet: u32) -> u32
 pub fn drive<R: UserEnds + PartnerSide, P: Partner>(
     alloc: Global,
     idle: u32,
-    ring: &mut R,
+    engine: &mut Engine<R>,
     partner: &mut P,
     todo: &mut Offers,
     table: &mut Table,
 ) -> Result<(), RunFault>
     requires idle { 0 < idle }
-    requires empty { (l : Lists) × (R.lists ring.old ≡ Some l) × IsCalm l (R.room ring.old) × (l.published ≡ []) }
-    requires holds { (0 < R.entries_fit ring.old) × (0 < R.completions_fit ring.old) }
+    requires empty { (l : Lists) × (R.lists engine.old.ring ≡ Some l) × IsCalm l (R.room engine.old.ring) × (l.published ≡ []) }
+    requires holds { (0 < R.entries_fit engine.old.ring) × (0 < R.completions_fit engine.old.ring) }
     requires slots { (table.old.slots.items ≡ slots_from 0 todo.old []) × (table.old.started ≡ 0) }
-    ensures run { (r : Driven P.log P.state partner.old partner.new todo.old (R.entries_fit ring.old) idle)
+    requires settled { IsSettled engine.old.ops table.old.started table.old.slots.items table.old.in_flight.items todo.old }
+    ensures run { (r : Driven P.log P.state partner.old partner.new todo.old (R.entries_fit engine.old.ring) idle)
         × MatchResult result
         (λ _. (count_open table.new.slots.items ≡ 0) × (table.new.slots.items ≡ slots_from 0 todo.old (posted r.moves)) × (first_strange (lends_in todo.old) nothing_seen (log_of r.moves) ≡ None)
         × ((a : PartnerState) → P.state partner.old ≡ Some a → IsIdle a → turns r.moves ≤ length todo.old))
@@ -55,7 +58,7 @@ pub fn drive<R: UserEnds + PartnerSide, P: Partner>(
 {
     let mut quiet = 0;
     'rounds: while !table.is_whole() {
-        let fin = round(alloc, ring, partner, todo, table)?;
+        let fin = round(alloc, engine, partner, todo, table)?;
         quiet = quiet_after(fin, quiet);
         if quiet == idle {
             return Err(RunFault::Stalled);

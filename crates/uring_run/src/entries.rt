@@ -1,19 +1,14 @@
 //! The entries of the jobs.
 
-ghost use Rattle.std.specs.Prelude.{◌≡◌, ◌≤◌, ◌<◌, ◌^◌, IfNone, length, true, Some};
-ghost use Rattle.uring_model.specs.Jobs.{asked, buf_lent, is_valid_job, is_valid_at};
-ghost use Rattle.uring_entry.specs.declared.types.Target.TheVariants.{Fixed as registered};
-ghost use Rattle.uring_entry.specs.Words.{blank};
-ghost use Rattle.uring_entry.specs.Targets.{on};
-ghost use Rattle.uring_run.specs.Entries.{words_of, loan_of, offer_of, AllValid, IsInRange, AllInRange, first_bad, unlinked_if, with_drain, with_link};
+ghost use Rattle.std.specs.Prelude.{◌≡◌, ◌≤◌, ◌<◌, ◌^◌, IfNone, true, Some};
+ghost use Rattle.uring_model.specs.Jobs.{asked, is_valid_job, is_valid_at};
+ghost use Rattle.uring_run.specs.Entries.{AllValid, IsInRange, AllInRange, first_bad, unlinked_if};
 
-use uring_entry::squeue::{Entry, Flags};
-use uring_entry::types::{Fixed, UseTarget};
+use uring_entry::squeue::Entry;
 use uring_entry::{Buf, Loan};
 use uring_model::{Job, JobKind, Link};
-use uring_ops_file::{Nop, Read, Write};
 
-/// An entry that is to be offered, with its loan.
+/// What is offered for a job: its entry, with its loan.
 #[derive(Drop)]
 pub struct Offer {
     pub entry: Entry,
@@ -75,87 +70,10 @@ pub fn first_bad_job(jobs: &[Job]) -> Option<u64>
     None
 }
 
-/// The words of job `number` but for its marks; a read or write lends its buffer under the
-/// number.
-fn words_and_loan(number: u64, kind: JobKind) -> (Entry, Option<Loan>)
-    requires { length (buf_lent kind) < 2 ^ 32 }
-    ensures words { result.0 ≡ words_of number kind }
-    ensures loan { result.1 ≡ loan_of number kind }
-{
-    match kind {
-        JobKind::Nop => (Nop::new().build(), None),
-        JobKind::Read { file, offset, buf } => {
-            let read = Read::new(Fixed(file), number, buf.len() as u32);
-            (read.offset(offset).build(), lent(number, buf))
-        }
-        JobKind::Write { file, offset, buf } => {
-            let write = Write::new(Fixed(file), number, buf.len() as u32);
-            (write.offset(offset).build(), lent(number, buf))
-        }
-        JobKind::Fsync { file } => (on_file(3, file, 0), None),
-        JobKind::Ftruncate { file, len } => (on_file(55, file, len), None),
-        JobKind::Cancel { job } => {
-            let words = Entry {
-                fd: -1,
-                addr: job,
-                ..Entry::blank(14)
-            };
-            (words, None)
-        }
-    }
-}
-
-fn lent(number: u64, buf: Buf) -> Option<Loan>
-    ensures { result ≡ Some (record { number = number; from = 0; buf = buf }) }
-{
-    Some(Loan {
-        number,
-        from: 0,
-        buf,
-    })
-}
-
-fn on_file(opcode: u8, file: u32, off: u64) -> Entry
-    ensures { result ≡ on (registered file) (record (blank opcode) { off = off }) }
-{
-    let words = Entry {
-        off,
-        ..Entry::blank(opcode)
-    };
-    words.on(Fixed(file).target())
-}
-
-fn marked(words: Entry, drain: bool, link: Link) -> Entry
-    ensures { result ≡ with_link link (with_drain drain words) }
-{
-    let drained = if drain {
-        words.flags(Flags::IO_DRAIN)
-    } else {
-        words
-    };
-    match link {
-        Link::Free => drained,
-        Link::Soft => drained.flags(Flags::IO_LINK),
-        Link::Hard => drained.flags(Flags::IO_HARDLINK),
-    }
-}
-
 /// The job; the last one has no link.
 pub fn unlinked_if(is_last: bool, job: Job) -> Job
     ensures { result ≡ unlinked_if is_last job }
 {
     let link = if is_last { Link::Free } else { job.link };
     Job { link, ..job }
-}
-
-/// The entry of job `number`, with its loan.
-pub fn offer_of(number: u64, job: Job) -> Offer
-    requires { length (buf_lent job.kind) < 2 ^ 32 }
-    ensures { result ≡ offer_of number job }
-{
-    let (words, loan) = words_and_loan(number, job.kind);
-    Offer {
-        entry: marked(words, job.drain, job.link).user_data(number),
-        loan,
-    }
 }

@@ -4,10 +4,14 @@
 
 mod drive;
 mod entries;
+mod flights;
+mod job_op;
 mod offers;
+mod polls;
 mod round;
 mod run;
 mod slot;
+mod starts;
 mod table;
 #[cfg(test)]
 mod tests;

@@ -1,12 +1,20 @@
 //! What is still to be offered.
 
-ghost use Rattle.std.specs.Prelude.{◌≡◌, ◌∷◌, [], MatchOption};
-ghost use Rattle.uring_run.specs.Entries.{AllValid, offers_from};
+ghost use Rattle.std.specs.Prelude.{◌≡◌, ◌∷◌, [], true, MatchOption, IfSome};
+ghost use Rattle.uring_model.specs.Jobs.{asked, is_valid_job};
+ghost use Rattle.uring_run.specs.Entries.{AllValid, offer_of, offers_from};
 
-use crate::entries::{Offer, offer_of, unlinked_if};
+use crate::entries::unlinked_if;
 use std::collections::VecDeque;
 use std::marker::Model;
 use uring_model::Job;
+
+/// A job and its number.
+#[derive(Drop)]
+pub struct Due {
+    pub number: u64,
+    pub job: Job,
+}
 
 /// The jobs that are still to be offered, seen as the entries that they become. An entry is made
 /// when its turn comes, so no list of all entries is built before the run.
@@ -41,13 +49,15 @@ impl Offers {
         }
     }
 
-    /// Takes the entry in front, if one is left.
-    pub fn pop_front(&mut self) -> Option<Offer>
-        ensures { MatchOption result ((self.old ≡ []) × (self.new ≡ [])) (λ offer. self.old ≡ offer ∷ self.new) }
+    /// Takes the job in front, if one is left; the last one has no link.
+    pub fn pop_front(&mut self) -> Option<Due>
+        ensures front { MatchOption result ((self.old ≡ []) × (self.new ≡ [])) (λ due. self.old ≡ offer_of due.number due.job ∷ self.new) }
+        ensures valid { IfSome result (λ due. is_valid_job (asked due.job) ≡ true) }
     {
         let job = self.jobs.pop_front()?;
         let number = self.number;
         self.number += 1;
-        Some(offer_of(number, unlinked_if(self.jobs.is_empty(), job)))
+        let job = unlinked_if(self.jobs.is_empty(), job);
+        Some(Due { number, job })
     }
 }

@@ -17,11 +17,12 @@ use crate::entries::first_bad_job;
 use crate::offers::Offers;
 use crate::slot::Slot;
 use crate::table::Table;
+use rent_engine::Engine;
 use std::alloc::{AllocError, Global};
 use uring_entry::Event;
 use uring_model::{Job, Report, RunFault};
 use uring_partner::Partner;
-use uring_ring::{IoUring, PartnerSide, SetupError, UserEnds};
+use uring_ring::{IoUring, Parameters, PartnerSide, SetupError, UserEnds};
 
 /// The events that a partner's log has from `start` on.
 fn journal_since<P: Partner>(
@@ -64,7 +65,8 @@ fn report_of<P: Partner>(
 /// Runs valid jobs over an empty ring.
 fn run_over<R: UserEnds + PartnerSide + Drop, P: Partner>(
     alloc: Global,
-    mut ring: R,
+    ring: R,
+    params: Parameters,
     idle: u32,
     partner: &mut P,
     jobs: Vec<Job>,
@@ -86,7 +88,8 @@ fn run_over<R: UserEnds + PartnerSide + Drop, P: Partner>(
         return Err(RunFault::NoMemory);
     };
     let mut todo = Offers::new(jobs);
-    drive(alloc, idle, &mut ring, partner, &mut todo, &mut table)?;
+    let mut engine = Engine::new(alloc, ring, params);
+    drive(alloc, idle, &mut engine, partner, &mut todo, &mut table)?;
     report_of(alloc, table, partner, start)
 }
 
@@ -139,5 +142,6 @@ pub fn run_jobs<P: Partner>(
     let Ok(ring) = ring_of(alloc, sq, cq, start) else {
         return Err(RunFault::NoMemory);
     };
-    run_over(alloc, ring, idle, partner, jobs)
+    let params = *ring.params();
+    run_over(alloc, ring, params, idle, partner, jobs)
 }

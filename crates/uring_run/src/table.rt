@@ -4,36 +4,48 @@ ghost use Rattle.std.specs.Prelude.{◌≡◌, ◌≤◌, IfOk, vec_len};
 ghost use Rattle.uring_run.specs.Slots.{count_open, opened, open_slots};
 ghost use Rattle.uring_model.specs.Jobs.{moves_bytes, op_asked};
 
-use crate::slot::{Slot, is_last, outcome_of};
+use crate::flights::InFlight;
+use crate::job_op::{JobOp, JobPoll};
+use crate::polls::poll_job;
+use crate::slot::Slot;
+use rent_engine::Engine;
 use std::alloc::{AllocError, Global};
 use std::collections::VecDeque;
-use uring_entry::Completion;
-use uring_model::{Job, JobKind, Outcome, RunFault};
+use uring_model::{Job, JobKind, Outcome};
+use uring_ring::UserEnds;
 
-/// A slot for each job. The first `started` jobs are started, and `unfinished` have no outcome.
+/// A slot for each job. The first `started` jobs are started, `unfinished` have no outcome, and
+/// those that are started and have none are in flight.
 #[derive(Drop)]
 pub struct Table {
     slots: Vec<Slot>,
     started: usize,
     unfinished: usize,
+    in_flight: VecDeque<InFlight>,
     ghost counted: { unfinished ≡ count_open slots.items },
     ghost within: { started ≤ vec_len slots },
 }
 
 impl Table {
-    ghost use Rattle.std.specs.Prelude.{◌≡◌, ◌+◌, ◌<◌, ◌↔◌, IsTrue, IfOk, OnErr, OnOk, IfErr, true, false, Bool, Some, not, map, slice_get, slice_set, if◌then◌else◌};
-    ghost use Rattle.uring_entry.specs.Completions.{is_final};
-    ghost use Rattle.uring_run.specs.Slots.{is_stranger, land_one, open_slots};
+    ghost use Rattle.std.specs.Prelude.{◌≡◌, ◌+◌, ◌<◌, ◌↔◌, ◌++◌, ◌∷◌, [], IsTrue, IfOk, OnOk, IfSome, Bool, Some, ℕ, map, slice_get, slice_set};
+    ghost use Rattle.std.specs.List.{AllByRecursion};
+    ghost use Rattle.rent_engine.specs.Ops.{done_at, polled, taken_out};
+    ghost use Rattle.uring_run.specs.Slots.{open_slots};
+    ghost use Rattle.uring_run.specs.Flights.{IsOpen, AreOperated, NoneResolved, all_polled, with_polled, left_by, jobs_of, AreLent};
+    ghost use Rattle.uring_run.specs.JobOps.{key_of, lends_buffer};
+    ghost use Rattle.uring_run.specs.Steps.{CanBePolled};
 
     /// A table of open slots.
     pub fn new(alloc: Global, jobs: &[Job]) -> Result<Table, AllocError>
         ensures slots { IfOk result (λ table. table.slots.items ≡ open_slots jobs.now) }
         ensures started { IfOk result (λ table. table.started ≡ 0) }
+        ensures none { IfOk result (λ table. table.in_flight.items ≡ []) }
     {
         Ok(Table {
             slots: all_open(alloc, jobs)?,
             started: 0,
             unfinished: jobs.len(),
+            in_flight: VecDeque::new(alloc),
         })
     }
 
@@ -60,55 +72,86 @@ impl Table {
         Ok(outcomes)
     }
 
-    /// One more job is started.
-    pub fn start(&mut self)
-        requires { self.old.started < vec_len self.old.slots }
-        ensures started { self.new.started ≡ self.old.started + 1 }
+    /// One more job is started, with this operation.
+    pub fn start(&mut self, op: JobOp) -> Result<(), AllocError>
+        requires inside { self.old.started < vec_len self.old.slots }
+        requires named { key_of op ≡ Some self.old.started }
+        ensures started { OnOk result (self.new.started ≡ self.old.started + 1) }
         ensures slots { self.new.slots.items ≡ self.old.slots.items }
+        ensures in_flight { OnOk result (jobs_of self.new.in_flight.items ≡ jobs_of self.old.in_flight.items ++ self.old.started ∷ []) }
+        ensures lent { AreLent self.old.slots.items self.old.in_flight.items → slice_get self.old.slots.items self.old.started ≡ Some (Slot.Open (lends_buffer op)) → OnOk result (AreLent self.new.slots.items self.new.in_flight.items) }
     {
+        let job = self.started;
+        self.in_flight.push_back(InFlight { job, op })?;
         self.started += 1;
+        Ok(())
     }
 
     fn finish(&mut self, place: usize, outcome: Outcome)
         requires { (lends : Bool) × (slice_get self.old.slots.items place ≡ Some (Slot.Open lends)) }
         ensures slots { self.new.slots.items ≡ slice_set self.old.slots.items place (Slot.Done outcome) }
         ensures started { self.new.started ≡ self.old.started }
+        ensures in_flight { self.new.in_flight.items ≡ self.old.in_flight.items }
     {
         self.slots[place] = Slot::Done(outcome);
         self.unfinished -= 1;
     }
 
-    fn is_stranger(&self, completion: &Completion) -> bool
-        ensures { result ≡ is_stranger self.now.started self.now.slots.items completion.now }
+    /// Polls the operation of a job. What it gives is kept in the job's slot; while it is in
+    /// flight, the job goes behind.
+    fn poll_one<R: UserEnds>(
+        &mut self,
+        alloc: Global,
+        engine: &mut Engine<R>,
+        flight: InFlight,
+    ) -> Result<(), AllocError>
+        requires polls { CanBePolled engine.old.ops flight.job flight.op }
+        requires resolved { IfSome (done_at engine.old.ops flight.job) (λ _. IsOpen self.old.slots.items flight.job) }
+        ensures lists { R.lists engine.new.ring ≡ R.lists engine.old.ring }
+        ensures room { R.room engine.new.ring ≡ R.room engine.old.ring }
+        ensures ops { engine.new.ops ≡ taken_out flight.job engine.old.ops }
+        ensures slots { self.new.slots.items ≡ with_polled flight.job (polled engine.old.ops flight.job) self.old.slots.items }
+        ensures started { self.new.started ≡ self.old.started }
+        ensures in_flight { OnOk result (jobs_of self.new.in_flight.items ≡ jobs_of self.old.in_flight.items ++ left_by (polled engine.old.ops flight.job) flight.job) }
+        ensures lent { (lends : ℕ → Bool) → AllByRecursion (λ f. lends_buffer f.op ≡ lends f.job) self.old.in_flight.items → lends_buffer flight.op ≡ lends flight.job → OnOk result (AllByRecursion (λ f. lends_buffer f.op ≡ lends f.job) self.new.in_flight.items) }
     {
-        if completion.user_data >= self.started as u64 {
-            return true;
+        let InFlight { job, op } = flight;
+        match poll_job(alloc, engine, op) {
+            JobPoll::Ready(outcome) => self.finish(job, outcome),
+            JobPoll::Pending(op) => self.in_flight.push_back(InFlight { job, op })?,
         }
-        self.slots[completion.user_data as usize].refuses(completion)
+        Ok(())
     }
 
-    /// Keeps what a completion gives its job; answers whether it was the last one of the job. A
-    /// completion that nothing is due is dropped.
-    pub fn complete(&mut self, completion: Completion) -> Result<bool, RunFault>
-        ensures ok { IfOk result (λ fin. (fin ≡ is_final completion.flags) × (self.new.slots.items ≡ land_one self.old.slots.items completion)) }
-        ensures due { OnOk result (is_stranger self.old.started self.old.slots.items completion ≡ false) }
-        ensures stranger { IfErr result (λ e. (e ≡ RunFault.Stranger completion.user_data) × (is_stranger self.old.started self.old.slots.items completion ≡ true)) }
-        ensures err { OnErr result (self.new.slots.items ≡ self.old.slots.items) }
+    /// Polls each job in flight once, and keeps what those that are resolved give.
+    pub fn poll_all<R: UserEnds>(
+        &mut self,
+        alloc: Global,
+        engine: &mut Engine<R>,
+    ) -> Result<(), AllocError>
+        requires operated { AreOperated engine.old.ops self.old.started self.old.slots.items (jobs_of self.old.in_flight.items) }
+        requires lent { AreLent self.old.slots.items self.old.in_flight.items }
+        ensures lists { R.lists engine.new.ring ≡ R.lists engine.old.ring }
+        ensures room { R.room engine.new.ring ≡ R.room engine.old.ring }
         ensures started { self.new.started ≡ self.old.started }
+        ensures slots { OnOk result (self.new.slots.items ≡ all_polled engine.old.ops self.old.slots.items) }
+        ensures operated { OnOk result (AreOperated engine.new.ops self.new.started self.new.slots.items (jobs_of self.new.in_flight.items)) }
+        ensures lent { OnOk result (AreLent self.new.slots.items self.new.in_flight.items) }
+        ensures none { OnOk result (NoneResolved engine.new.ops) }
     {
-        let job = completion.user_data;
-        if self.is_stranger(&completion) {
-            return Err(RunFault::Stranger(job));
+        let mut left = self.in_flight.len();
+        while left > 0 {
+            left -= 1;
+            match self.in_flight.pop_front() {
+                Some(flight) => self.poll_one(alloc, engine, flight)?,
+                None => unreachable!(),
+            }
         }
-        if !is_last(completion.flags) {
-            return Ok(false);
-        }
-        self.finish(job as usize, outcome_of(completion));
-        Ok(true)
+        Ok(())
     }
 }
 
-fn lends_buffer(kind: &JobKind) -> bool
+fn moves_buffer(kind: &JobKind) -> bool
     ensures { result ≡ moves_bytes (op_asked kind.now) }
 {
     matches!(kind, JobKind::Read { .. } | JobKind::Write { .. })
@@ -118,7 +161,7 @@ fn open_slot(job: &Job) -> Slot
     ensures { result ≡ opened job.now }
 {
     Slot::Open {
-        lends: lends_buffer(&job.kind),
+        lends: moves_buffer(&job.kind),
     }
 }
 

@@ -1,17 +1,19 @@
 use Rattle.std.proofs.Common.{◌≡◌, ◌+◌, ◌-◌, ◌*◌, ◌<◌, ◌≤◌, [], length, IfSome}
 use Rattle.uring_run.specs.Entries.{all_taken}
 use Rattle.uring_run.specs.Slots.{count_open}
+use Rattle.uring_run.specs.Flights.{IsSettled}
 use Rattle.uring_run.proofs.Running.{Running}
 use Rattle.uring_run.proofs.drive.drive.Given as goal
 
 -- the run so far
 abbrev pub invariant-rounds : goal.invariant-rounds
 invariant-rounds g l =
-    (w : Running g.P.Partner.log g.P.Partner.state g.R.Rings.lists l.initial.partner l.partner l.ring (g.R.UserEnds.room l.ring) (all_taken l.todo) l.table.started l.table.slots.items l.initial.todo (g.R.UserEnds.entries_fit l.initial.ring) l.fn.idle l.quiet)
+    (w : Running g.P.Partner.log g.P.Partner.state g.R.Rings.lists l.initial.partner l.partner l.engine.ring (g.R.UserEnds.room l.engine.ring) (all_taken l.todo) l.table.started l.table.slots.items l.initial.todo (g.R.UserEnds.entries_fit l.initial.engine.ring) l.fn.idle l.quiet)
     × (l.quiet < l.fn.idle)
     × (l.table.started + length l.todo ≤ length l.table.slots.items)
     × (g.P.Counts.faults l.initial.partner ≤ g.P.Counts.faults l.partner)
     × (g.P.Partner.plan l.initial.partner ≡ [] → g.P.Partner.plan l.partner ≡ [])
+    × IsSettled l.engine.ops l.table.started l.table.slots.items l.table.in_flight.items l.todo
     × IfSome (g.P.Partner.state l.initial.partner) (λ _. g.P.Partner.plan l.initial.partner ≡ [] → g.P.Counts.faults l.partner ≡ g.P.Counts.faults l.initial.partner)
 
 abbrev pub decreases-rounds : goal.decreases-rounds

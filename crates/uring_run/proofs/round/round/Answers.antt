@@ -1,78 +1,87 @@
-use Rattle.std.proofs.Common.{inl, inr, [], map, IfSome, true, false, refl, ap, sym, subst}
+use Rattle.std.proofs.Common.{inl, inr, Ok, Err, is_ok, map, nat_lt, refl, ap, sym, subst, ◌∙◌, ◌+◌, length}
 use Rattle.uring_model.specs.Moves.{posted}
-use Rattle.uring_partner.specs.Calls.{IsCall, IsWholeTurn}
+use Rattle.uring_model.specs.declared.jobs.RunFault.TheVariants as faults
 use Rattle.uring_run.specs.Entries.{all_taken}
-use Rattle.uring_run.specs.Rounds.{RoundEnds}
-use Rattle.uring_ring.specs.Lists.{HasRoom}
-use Rattle.uring_run.proofs.RingLemmas.{reaped-none}
-use Rattle.uring_run.proofs.RoundLemmas.{offered_to, entered_at, went, all_posts, nothing_left, full_after, fault_ends, ends_by}
+use Rattle.uring_run.specs.Flights.{jobs_of, AreAhead}
+use Rattle.uring_run.specs.Rounds.{RoundEnds, engine_fault}
+use Rattle.uring_run.proofs.RoundLemmas.{turn_did, round_of, fault_by, posts_are, landed_of, polled_ends, once_ok}
+use Rattle.uring_run.proofs.StartLemmas.{ahead_landed}
 use Rattle.uring_run.proofs.round.round.Goals as goal
 
-pub returns-in-Err-clause-round : goal.returns-in-Err-clause-round
-returns-in-Err-clause-round g c =
+pub returns-in-Err-clause-err : goal.returns-in-Err-clause-err
+returns-in-Err-clause-err g c =
     let a = c.requires.calm.0 in
-    let p = c.offer_some.ensures.offered in
-    let e = c.in-Err.ensures.moves in
-    let h = entered_at a p.0 _ _ _ c.requires.calm.1 p.2 c.publish.ensures.told in
-    let w = went g.R.Rings.kept a p.0 e.0 [] _ _ _ _ h (g.met.R.PartnerSide.moved_told _ _ _ _ e.1.sides) refl (reaped-none _) in
-    record {
-      ts = p.0;
-      ms = e.0;
-      entered = false;
-      before = a;
-      at = offered_to a p.0;
-      after = w.after;
-      told_before = c.requires.calm.1;
-      told_after = w.told;
-      offered = p.1;
-      full = elim c.offer_some.ensures.full [ inl t ↦ inl (ap all_taken t) | inr z ↦ inr (full_after a p.0 _ _ c.requires.calm.2.seen p.3 z) ];
-      published = refl;
-      fits = subst (λ o. IfSome o HasRoom) h (g.R.Rings.fits _);
-      logs = e.1.logs;
-      states = e.1.states;
-      call = subst (λ o. IsCall false 4294967295 o e.0) h e.2;
-      whole = tt;
-      taken = w.taken;
-      pushed = w.pushed;
-      capacity = w.capacity;
-      completion_capacity = w.held;
-      ends = fault_ends c.offer_some.new.table.started c.args.table.now.slots.items c.offer_some.new.table.slots.items (map g.R.Rings.kept (posted e.0)) c.in-Err.error c.fault_of.result c.fault_of.ensures;
-    }
+    let s = c.in_ok-start_some.ensures in
+    let p = s.offered in
+    let t = c.in-Err.ensures.turned in
+    let d = turn_did _ _ _ g.R.Rings.kept _ _ _ _ _ g.met.R.PartnerSide.moved_told g.R.Rings.fits _ _ _ _ _ _ _ _ _ t a p.0 c.requires.calm.1 p.2 in
+    let posts = map g.R.Rings.kept (posted t.submitted.enters.moves) in
+    let slots = c.start_some.new.table.slots.items in
+    let ends = fault_by c.start_some.new.table.started slots slots (jobs_of c.start_some.new.table.in_flight.items) c.start_some.new.engine.ops c.turn.new.self.ops d.cs d.went.after.completions posts _ c.in-Err.fault s.settled.operated s.settled.none
+    (posts_are g.R.Rings.kept a t.submitted.enters.moves d.cs d.went.after.completions c.requires.calm.2.completions d.went.posts) d.ended in
+    inr (
+      round_of _ _ _ g.R.Rings.kept _ _ _ _ _ g.met.R.PartnerSide.moved_told g.R.Rings.fits _ _ _ _ _ _ _ _ _ t a p.0 c.requires.calm.1 p.2 c.turn.new.self.ring refl c.requires.calm.2 (all_taken c.args.todo.now) (all_taken c.start_some.new.todo) p.1 p.3
+          (elim s.full [ inl e ↦ inl (ap all_taken e) | inr z ↦ inr z ]) c.start_some.new.table.started c.args.table.now.slots.items slots _
+          (subst (λ e. RoundEnds c.start_some.new.table.started c.args.table.now.slots.items posts slots (is_ok t.answer) (Err e)) (sym c.fault_of.ensures)
+          (subst (λ x. RoundEnds c.start_some.new.table.started x posts slots (is_ok t.answer) (Err (engine_fault c.in-Err.fault))) s.slots ends)),
+      s.inside,
+    )
+
+pub poll_all-requires-clause-operated : goal.poll_all-requires-clause-operated
+poll_all-requires-clause-operated g c =
+    let a = c.requires.calm.0 in
+    let s = c.in_ok-start_some.ensures in
+    let p = s.offered in
+    let d = turn_did _ _ _ g.R.Rings.kept _ _ _ _ _ g.met.R.PartnerSide.moved_told g.R.Rings.fits _ _ _ _ _ _ _ _ _ c.in-Ok.ensures.turned a p.0 c.requires.calm.1 p.2 in
+    (landed_of _ _ _ _ _ _ _ _ _ _ _ d c.requires.calm.2.completions c.in-Ok.ensures.none_left c.start_some.new.table.started c.start_some.new.table.slots.items (jobs_of c.start_some.new.table.in_flight.items) s.settled.operated s.settled.none).operated
+
+pub returns-then-is_err-clause-err : goal.returns-then-is_err-clause-err
+returns-then-is_err-clause-err g c =
+    let a = c.requires.calm.0 in
+    let s = c.in_ok-start_some.ensures in
+    let p = s.offered in
+    inr (
+      round_of _ _ _ g.R.Rings.kept _ _ _ _ _ g.met.R.PartnerSide.moved_told g.R.Rings.fits _ _ _ _ _ _ _ _ _ c.in-Ok.ensures.turned a p.0 c.requires.calm.1 p.2 c.poll_all.new.engine.ring c.poll_all.ensures.lists c.requires.calm.2 (all_taken c.args.todo.now) (all_taken c.start_some.new.todo) p.1 p.3
+          (elim s.full [ inl e ↦ inl (ap all_taken e) | inr z ↦ inr z ]) c.poll_all.new.self.started c.args.table.now.slots.items c.poll_all.new.self.slots.items (Err faults.NoMemory) tt,
+      ap (λ n. n + length c.start_some.new.todo) c.poll_all.ensures.started ∙ s.inside,
+    )
 
 pub returns-clause-round : goal.returns-clause-round
 returns-clause-round g c =
     let a = c.requires.calm.0 in
-    let p = c.offer_some.ensures.offered in
-    let e = c.in_default.ensures.moves in
-    let r = c.reap_all.ensures.reaped in
-    let h = entered_at a p.0 _ _ _ c.requires.calm.1 p.2 c.publish.ensures.told in
-    let w = went g.R.Rings.kept a p.0 e.0 r.0 _ _ _ _ h (g.met.R.PartnerSide.moved_told _ _ _ _ e.1.sides) c.refresh.ensures.told r.1 in
-    let posts = map g.R.Rings.kept (posted e.0) in
+    let s = c.in_ok-start_some.ensures in
+    let p = s.offered in
+    let t = c.in-Ok.ensures.turned in
+    let d = turn_did _ _ _ g.R.Rings.kept _ _ _ _ _ g.met.R.PartnerSide.moved_told g.R.Rings.fits _ _ _ _ _ _ _ _ _ t a p.0 c.requires.calm.1 p.2 in
+    let posts = map g.R.Rings.kept (posted t.submitted.enters.moves) in
+    let l = landed_of _ _ _ _ _ _ _ _ _ _ _ d c.requires.calm.2.completions c.in-Ok.ensures.none_left c.start_some.new.table.started c.start_some.new.table.slots.items (jobs_of c.start_some.new.table.in_flight.items) s.settled.operated s.settled.none in
+    let q = polled_ends c.start_some.new.table.started c.start_some.new.table.slots.items (jobs_of c.start_some.new.table.in_flight.items) posts c.turn.new.self.ops c.in-Ok.report (is_ok t.answer) d.went.after _ l
+    c.poll_all.new.self.started c.args.table.now.slots.items c.poll_all.new.self.slots.items c.poll_all.ensures.started (sym s.slots) (once_ok c.poll_all.result _ (sym c.if-is_err.ensures.value) c.poll_all.ensures.slots) in
+    round_of _ _ _ g.R.Rings.kept _ _ _ _ _ g.met.R.PartnerSide.moved_told g.R.Rings.fits _ _ _ _ _ _ _ _ _ t a p.0 c.requires.calm.1 p.2 c.poll_all.new.engine.ring c.poll_all.ensures.lists c.requires.calm.2 (all_taken c.args.todo.now) (all_taken c.start_some.new.todo) p.1 p.3
+    (elim s.full [ inl e ↦ inl (ap all_taken e) | inr z ↦ inr z ]) c.poll_all.new.self.started c.args.table.now.slots.items c.poll_all.new.self.slots.items (Ok (nat_lt 0 c.in-Ok.report.finals)) q
+
+pub returns-clause-calm : goal.returns-clause-calm
+returns-clause-calm g c =
+    let a = c.requires.calm.0 in
+    let s = c.in_ok-start_some.ensures in
+    let p = s.offered in
+    let d = turn_did _ _ _ g.R.Rings.kept _ _ _ _ _ g.met.R.PartnerSide.moved_told g.R.Rings.fits _ _ _ _ _ _ _ _ _ c.in-Ok.ensures.turned a p.0 c.requires.calm.1 p.2 in
+    let l = landed_of _ _ _ _ _ _ _ _ _ _ _ d c.requires.calm.2.completions c.in-Ok.ensures.none_left c.start_some.new.table.started c.start_some.new.table.slots.items (jobs_of c.start_some.new.table.in_flight.items) s.settled.operated s.settled.none in
+    (d.went.after, c.poll_all.ensures.lists ∙ d.went.told, record { pushed = d.went.pushed; completions = l.none; seen = c.poll_all.ensures.room ∙ l.seen })
+
+pub returns-clause-settled : goal.returns-clause-settled
+returns-clause-settled g c =
+    let a = c.requires.calm.0 in
+    let s = c.in_ok-start_some.ensures in
+    let p = s.offered in
+    let d = turn_did _ _ _ g.R.Rings.kept _ _ _ _ _ g.met.R.PartnerSide.moved_told g.R.Rings.fits _ _ _ _ _ _ _ _ _ c.in-Ok.ensures.turned a p.0 c.requires.calm.1 p.2 in
+    let l = landed_of _ _ _ _ _ _ _ _ _ _ _ d c.requires.calm.2.completions c.in-Ok.ensures.none_left c.start_some.new.table.started c.start_some.new.table.slots.items (jobs_of c.start_some.new.table.in_flight.items) s.settled.operated s.settled.none in
+    let ok = sym c.if-is_err.ensures.value in
     record {
-      ts = p.0;
-      ms = e.0;
-      entered = true;
-      before = a;
-      at = offered_to a p.0;
-      after = w.after;
-      told_before = c.requires.calm.1;
-      told_after = w.told;
-      offered = p.1;
-      full = elim c.offer_some.ensures.full [ inl t ↦ inl (ap all_taken t) | inr z ↦ inr (full_after a p.0 _ _ c.requires.calm.2.seen p.3 z) ];
-      published = refl;
-      fits = subst (λ o. IfSome o HasRoom) h (g.R.Rings.fits _);
-      logs = e.1.logs;
-      states = e.1.states;
-      call = subst (λ o. IsCall true 4294967295 o e.0) h e.2;
-      whole = subst (λ o. IsWholeTurn (g.P.Partner.state c.args.partner.now) o e.0) h e.4;
-      taken = w.taken;
-      pushed = w.pushed;
-      capacity = w.capacity;
-      completion_capacity = w.held;
-      ends =
-          subst (λ s. RoundEnds s c.args.table.now.slots.items posts c.reap_all.new.table.slots.items true c.reap_all.result) (sym c.reap_all.ensures.started)
-          (subst (λ x. RoundEnds c.offer_some.new.table.started x posts c.reap_all.new.table.slots.items true c.reap_all.result) c.offer_some.ensures.slots
-          (ends_by c.offer_some.new.table.started c.offer_some.new.table.slots.items c.reap_all.new.table.slots.items posts r.0 w.after.completions _ c.reap_all.result
-          (all_posts _ a e.0 r.0 w.after.completions c.requires.calm.2.completions w.posts)
-          (λ z. nothing_left _ a p.0 e.0 r.0 _ _ _ _ w r.1 c.refresh.ensures.seen z c.requires.calm.2.completions) r.2));
+      operated = once_ok c.poll_all.result _ ok c.poll_all.ensures.operated;
+      lent = once_ok c.poll_all.result _ ok c.poll_all.ensures.lent;
+      none = once_ok c.poll_all.result _ ok c.poll_all.ensures.none;
+      ahead =
+          subst (λ n. AreAhead n c.poll_all.new.self.slots.items c.start_some.new.todo) (sym c.poll_all.ensures.started)
+          (subst (λ x. AreAhead c.start_some.new.table.started x c.start_some.new.todo) (sym (once_ok c.poll_all.result _ ok c.poll_all.ensures.slots ∙ l.lands)) (ahead_landed c.start_some.new.table.started c.start_some.new.table.slots.items c.start_some.new.todo _ l.due s.settled.ahead));
     }

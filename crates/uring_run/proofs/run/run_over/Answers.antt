@@ -6,6 +6,7 @@ use Rattle.uring_run.specs.Driven.{Driven, IsGivenUp}
 use Rattle.uring_run.specs.Runs.{RunSays}
 use Rattle.uring_run.specs.Slots.{slots_from, open_slots}
 use Rattle.uring_run.proofs.Posts.{slots_first}
+use Rattle.uring_run.proofs.StartLemmas.{settled_first}
 use Rattle.uring_run.proofs.Says.{not_driven, not_stalled, says_fault, says_either, gain_at}
 use Rattle.uring_run.proofs.run.run_over.Goals as goal
 
@@ -17,11 +18,16 @@ pub drive-requires-clause-slots : goal.drive-requires-clause-slots
 drive-requires-clause-slots g c =
     (c.in-Ok.ensures.slots ∙ ap open_slots c.deref.ensures.value ∙ sym (slots_first 0 c.args.jobs.items) ∙ ap (λ o. slots_from 0 o []) (sym c.new-todo.ensures), c.in-Ok.ensures.started)
 
+pub drive-requires-clause-settled : goal.drive-requires-clause-settled
+drive-requires-clause-settled g c =
+    settled_first _ _ _ _ _ c.args.jobs.items c.new-engine.ensures.ops c.in-Ok.ensures.started (drive-requires-clause-slots g c).0 c.in-Ok.ensures.none c.new-todo.ensures
+
 pub returns-in_err-drive-clause-says : goal.returns-in_err-drive-clause-says
 returns-in_err-drive-clause-says g c =
     let d = c.in_err-drive.ensures in
     let p = err_from_is_err_and c.from_residual.result c.from_residual.ensures.1 in
-    let run = subst (λ o. (r : Driven g.P.Partner.log g.P.Partner.state c.args.partner.now c.drive.new.partner o (g.R.UserEnds.entries_fit c.args.ring) c.args.idle) × IsGivenUp o c.args.idle (log_of r.moves) c.in_err-drive.field-0.0) c.new-todo.ensures d.run in
+    let run = subst (λ o. (r : Driven g.P.Partner.log g.P.Partner.state c.args.partner.now c.drive.new.partner o (g.R.UserEnds.entries_fit c.args.ring) c.args.idle) × IsGivenUp o c.args.idle (log_of r.moves) c.in_err-drive.field-0.0) c.new-todo.ensures
+    (subst (λ x. (r : Driven g.P.Partner.log g.P.Partner.state c.args.partner.now c.drive.new.partner c.new-todo.result (g.R.UserEnds.entries_fit x) c.args.idle) × IsGivenUp c.new-todo.result c.args.idle (log_of r.moves) c.in_err-drive.field-0.0) c.new-engine.ensures.ring d.run) in
     rw p.1 (subst (λ e. RunSays g.P.Partner.log g.P.Partner.state c.args.partner.now c.drive.new.partner c.args.jobs.items (g.R.UserEnds.entries_fit c.args.ring) c.args.idle (Err e)) (sym p.2)
     (says_fault _ _ _ _ c.args.jobs.items _ _ c.in_err-drive.field-0.0 c.requires.valid c.requires.in_range run.0 run.1 d.unstalled))
 
@@ -29,4 +35,5 @@ pub returns-clause-says : goal.returns-clause-says
 returns-clause-says g c =
     let d = c.in_ok-drive.ensures in
     let r = c.report_of.ensures in
-    says_either _ _ _ _ c.args.jobs.items _ _ c.log_len-start.result c.drive.new.table.slots.items _ c.report_of.result c.requires.valid c.requires.in_range c.new-todo.ensures d.run r.outcomes r.journal r.err (gain_at _ _ _ c.log_len-start.ensures (g.met.P.Partner.counts_log c.args.partner.now))
+    subst (λ x. RunSays g.P.Partner.log g.P.Partner.state c.args.partner.now c.drive.new.partner c.args.jobs.items (g.R.UserEnds.entries_fit x) c.args.idle c.report_of.result) c.new-engine.ensures.ring
+    (says_either _ _ _ _ c.args.jobs.items _ _ c.log_len-start.result c.drive.new.table.slots.items _ c.report_of.result c.requires.valid c.requires.in_range c.new-todo.ensures d.run r.outcomes r.journal r.err (gain_at _ _ _ c.log_len-start.ensures (g.met.P.Partner.counts_log c.args.partner.now)))

@@ -1,0 +1,61 @@
+-- How a job's operation is begun and polled.
+use Rattle.std.specs.Prelude.{◌≡◌, ℕ, ◌+◌, Bool, true, bit_or, if◌then◌else◌, [], ◌∷◌, Option, Some, is_some, IfSome}
+use Rattle.uring_entry.specs.declared.squeue.Entry.{Entry}
+use Rattle.uring_ring.specs.Lists.{Lists, Becomes, small}
+use Rattle.uring_model.specs.declared.jobs.JobKind.{JobKind}
+use Rattle.uring_model.specs.declared.jobs.Link.{Link}
+use Rattle.uring_model.specs.declared.jobs.Link.TheVariants.{Free, Soft, Hard}
+use Rattle.rent_engine.specs.declared.ops.OpPoll.{OpPoll}
+use Rattle.rent_engine.specs.declared.ops.OpPoll.TheVariants as polls
+use Rattle.rent_engine.specs.Ops.{Ops, done_at, knows, started, polled, taken_out}
+use Rattle.uring_run.specs.Entries.{words_of, loan_of}
+use Rattle.uring_run.specs.Rounds.{pushed_more}
+use Rattle.uring_run.specs.Flights.{outcome_polled}
+use Rattle.uring_run.specs.JobOps.{key_of, lends_buffer}
+use Rattle.uring_run.specs.declared.job_op.JobOp.{JobOp}
+use Rattle.uring_run.specs.declared.job_op.JobPoll.{JobPoll}
+use Rattle.uring_run.specs.declared.job_op.JobPoll.TheVariants.{Ready, Pending}
+
+-- the flags of a drain and of a link
+abbrev pub link_bit : Link → ℕ
+link_bit Free = 0
+link_bit Soft = 4
+link_bit Hard = 8
+
+abbrev pub mark_bits : Bool → Link → ℕ
+mark_bits drain link = bit_or (if drain then 2 else 0) (link_bit link)
+
+-- the entry of job n with these flags added
+abbrev pub with_marks : ℕ → JobKind → ℕ → Entry
+with_marks n kind bits = record (words_of n kind) { flags = bit_or (words_of n kind).flags bits; user_data = n }
+
+-- The job's entry was offered under its number, with its buffer lent, and its operation is in flight.
+pub record IsBegun {R : Type 0} (lists : R → Option Lists) (room waiting : R → ℕ) (n : ℕ) (kind : JobKind) (bits : ℕ) (before after : R) (ops ops' : Ops) (op : JobOp) : Type 0 where
+  pub told : Becomes (lists before) (pushed_more (small (with_marks n kind bits) (loan_of n kind) ∷ [])) (lists after)
+  pub places : room before ≡ room after + 1
+  pub seen : waiting after ≡ waiting before
+  pub operations : ops' ≡ started n (is_some (loan_of n kind)) ops
+  pub key : key_of op ≡ Some n
+  pub lends : lends_buffer op ≡ is_some (loan_of n kind)
+
+-- what a poll of a job's operation answers, by what the engine does
+abbrev pub Tells : ℕ → Bool → OpPoll → JobPoll → Type 0
+Tells n lends (polls.Ready done) (Ready outcome) = outcome ≡ outcome_polled done
+Tells n lends (polls.Ready done) (Pending op) = ⊥
+Tells n lends (polls.Pending k) (Ready outcome) = ⊥
+Tells n lends (polls.Pending k) (Pending op) = (key_of op ≡ Some n) × (lends_buffer op ≡ lends)
+Tells n lends (polls.Lost k) answer = ⊥
+
+-- A job's operation was polled, and the rings are as they were.
+pub record IsPolled {R : Type 0} (lists : R → Option Lists) (room waiting : R → ℕ) (n : ℕ) (lends : Bool) (before after : R) (ops ops' : Ops) (answer : JobPoll) : Type 0 where
+  pub told : lists after ≡ lists before
+  pub places : room after ≡ room before
+  pub seen : waiting after ≡ waiting before
+  pub operations : ops' ≡ taken_out n ops
+  pub tells : Tells n lends (polled ops n) answer
+
+-- The engine knows it, and where it lent a buffer and is resolved, a buffer came back.
+pub record CanBePolled (ops : Ops) (n : ℕ) (op : JobOp) : Type 0 where
+  pub key : key_of op ≡ Some n
+  pub known : knows ops n ≡ true
+  pub brings : IfSome (done_at ops n) (λ done. lends_buffer op ≡ true → is_some done.buf ≡ true)
