@@ -5,12 +5,18 @@
 //! A setter that isn't called leaves 0, and the last call of one wins.
 #![tactic(auto)]
 
+mod cancels;
 mod nop;
 mod reads;
+mod sizes;
+mod syncs;
 mod writes;
 
+pub use cancels::AsyncCancel;
 pub use nop::Nop;
 pub use reads::Read;
+pub use sizes::Ftruncate;
+pub use syncs::Fsync;
 pub use writes::Write;
 
 #[cfg(test)]

@@ -1,6 +1,6 @@
-use crate::{Nop, Read, Write};
+use crate::{AsyncCancel, Fsync, Ftruncate, Nop, Read, Write};
 use uring_entry::squeue::Entry;
-use uring_entry::types::{Fd, Fixed, Target};
+use uring_entry::types::{Fd, Fixed, FsyncFlags, Target};
 
 /// A Read of 1024 bytes from descriptor 5 into loan 7.
 #[test]
@@ -100,4 +100,31 @@ fn words_of_a_nop(rt: HostRuntime) {
     };
     assert_eq!(rt; Nop::new().build(), words);
     assert_eq!(rt; (Nop::CODE, Read::CODE, Write::CODE), (0, 22, 23));
+}
+
+/// A sync of the data alone, a truncate of a registered file, and a cancel.
+#[test]
+fn words_of_a_sync_a_truncate_and_a_cancel(rt: HostRuntime) {
+    let sync = Fsync::new(Fd(5)).flags(FsyncFlags::DATASYNC);
+    let words = Entry {
+        fd: 5,
+        off: 8,
+        len: 2,
+        op: 1,
+        ..Entry::blank(3)
+    };
+    assert_eq!(rt; sync.offset(8).len(2).build(), words);
+    let words = Entry {
+        flags: 1,
+        fd: 6,
+        off: 4096,
+        ..Entry::blank(55)
+    };
+    assert_eq!(rt; Ftruncate::new(Fixed(6), 4096).build(), words);
+    let words = Entry {
+        fd: -1,
+        addr: 7,
+        ..Entry::blank(14)
+    };
+    assert_eq!(rt; AsyncCancel::new(7).build(), words);
 }
