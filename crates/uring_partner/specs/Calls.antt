@@ -1,5 +1,5 @@
 -- What one call of a partner does.
-use Rattle.std.specs.Prelude.{◌≡◌, ℕ, ◌-◌, ◌≤◌, ◌⊎◌, min, Bool, true, false, nat_lt, List, [], ◌∷◌, length, map, filter, Option, Some, None, IfSome}
+use Rattle.std.specs.Prelude.{◌≡◌, ℕ, ◌-◌, ◌≤◌, ◌⊎◌, min, Bool, true, false, nat_lt, List, [], ◌∷◌, ◌++◌, length, map, filter, Option, Some, None, IfSome}
 use Rattle.std.specs.FinMap.{insert}
 use Rattle.uring_entry.specs.declared.events.Taken.{Taken}
 use Rattle.uring_entry.specs.declared.events.Completion.{Completion}
@@ -58,3 +58,7 @@ StateBecomes (Some a) f after = after ≡ Some (f a)
 
 abbrev pub with_file : ℕ → List ℕ → PartnerState → PartnerState
 with_file number bytes a = record a { files = insert a.files number bytes }
+
+-- the choice is the last of those that are left
+abbrev pub with_choice : ℕ → PartnerState → PartnerState
+with_choice c a = record a { choices = a.choices ++ c ∷ [] }

@@ -289,4 +289,9 @@ impl Seedable for HostilePartner {
     fn put_file(&mut self, _alloc: Global, _number: u32, _bytes: Buf) -> Result<(), PartnerError> {
         Ok(())
     }
+
+    /// Does nothing, since its script says what it posts.
+    fn add_choice(&mut self, _alloc: Global, _choice: u32) -> Result<(), PartnerError> {
+        Ok(())
+    }
 }

@@ -367,4 +367,11 @@ impl Seedable for MemoryPartner {
         }
         Ok(())
     }
+
+    fn add_choice(&mut self, _alloc: Global, choice: u32) -> Result<(), PartnerError> {
+        if self.choices.push_back(choice).is_err() {
+            return Err(PartnerError::NoMemory);
+        }
+        Ok(())
+    }
 }

@@ -64,16 +64,27 @@ pub trait Partner: Counts {
     ghost counts_log: { (partner : Self) → IfSome (log partner) (λ l. log_count partner ≡ length l) };
 }
 
-/// A partner that can be given files.
+/// A partner that can be given files and choices.
 pub trait Seedable: Partner {
     ghost use Rattle.std.specs.Prelude.{◌≡◌, OnOk, OnErr, IfSome, IfErr, false};
     ghost use Rattle.uring_entry.specs.Causes.{HasCause};
-    ghost use Rattle.uring_partner.specs.Calls.{is_fault, StateBecomes, with_file};
+    ghost use Rattle.uring_partner.specs.Calls.{is_fault, StateBecomes, with_choice, with_file};
 
     /// Puts a file with these bytes under the number, in place of what stood there. A partner
     /// that tells its files is never at fault here.
     fn put_file(&mut self, alloc: Global, number: u32, bytes: Buf) -> Result<(), PartnerError>
         ensures ok { OnOk result (StateBecomes (Self.state self.old) (with_file number bytes) (Self.state self.new)) }
+        ensures err { OnErr result (Self.state self.new ≡ Self.state self.old) }
+        ensures log { Self.log self.new ≡ Self.log self.old }
+        ensures plan { Self.plan self.new ≡ Self.plan self.old }
+        ensures cause { HasCause is_fault (Self.faults self.old) (Self.faults self.new) result }
+        ensures no_fault { IfSome (Self.state self.old) (λ _. IfErr result (λ e. is_fault e ≡ false) × (Self.faults self.new ≡ Self.faults self.old)) };
+
+    /// Adds a choice behind those that are left: which of the ready entries settles after as many
+    /// settlings, and whether the turn goes on after it. A partner that tells its choices is never
+    /// at fault here.
+    fn add_choice(&mut self, alloc: Global, choice: u32) -> Result<(), PartnerError>
+        ensures ok { OnOk result (StateBecomes (Self.state self.old) (with_choice choice) (Self.state self.new)) }
         ensures err { OnErr result (Self.state self.new ≡ Self.state self.old) }
         ensures log { Self.log self.new ≡ Self.log self.old }
         ensures plan { Self.plan self.new ≡ Self.plan self.old }

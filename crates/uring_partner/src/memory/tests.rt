@@ -162,9 +162,9 @@ fn a_choice_names_among_the_ready(rt: HostRuntime) -> Result<(), Fail> {
     let alloc = rt.alloc();
     let mut partner = MemoryPartner::new(alloc);
     let mut ring = IoUring::new(alloc, 4)?;
-    partner.choices.push_back(3)?;
-    partner.choices.push_back(3)?;
-    partner.choices.push_back(0)?;
+    for choice in [3, 3, 0] {
+        partner.add_choice(alloc, choice)?;
+    }
     offer(&rt, &mut ring, nop().flags(Flags::IO_DRAIN), 1, None);
     offer(&rt, &mut ring, nop(), 2, None);
     offer(&rt, &mut ring, nop(), 3, None);
@@ -249,6 +249,7 @@ fn each_call(rt: HostRuntime) -> Result<(), Fail> {
     let mut ring = IoUring::new(alloc, 4)?;
     partner.put_file(alloc, 3, Buf::from_slice(alloc, b"four")?)?;
     assert_eq!(rt; partner.file_len(3), Some(4));
+    partner.add_choice(alloc, 1)?;
     partner.fail_enter(alloc, 2)?;
     offer(&rt, &mut ring, nop(), 1, None);
     assert_eq!(rt; turn(alloc, &mut partner, &mut ring)?, 1);
