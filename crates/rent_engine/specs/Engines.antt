@@ -7,6 +7,7 @@ use Rattle.uring_entry.specs.declared.buffer.Loan.{Loan}
 use Rattle.uring_entry.specs.declared.events.Taken.{Taken}
 use Rattle.uring_entry.specs.declared.events.Completion.{Completion}
 use Rattle.uring_entry.specs.Completions.{is_final}
+use Rattle.uring_ops_file.specs.Rows.{new_async_cancel, async_cancel_words}
 use Rattle.uring_ring.specs.declared.setup.Parameters.{Parameters}
 use Rattle.uring_ring.specs.contracts.setup.Parameters as parameters
 use Rattle.uring_ring.specs.Lists.{Lists, Becomes, WhereTold, free_of, small}
@@ -35,6 +36,10 @@ loan_of n from (Some buf) = Some (record { number = n; from = from; buf = buf })
 -- what is offered for an operation: its entry under its number, with its buffer lent
 abbrev pub asked : ℕ → Entry → ℕ → Option Buf → Taken
 asked n entry from buf = small (record entry { user_data = n }) (loan_of n from buf)
+
+-- what is offered for the cancel of an operation: the entry of its builder, without a loan
+abbrev pub asked_cancel : ℕ → ℕ → Taken
+asked_cancel target n = asked n (async_cancel_words (new_async_cancel target)) 0 None
 
 -- these entries were offered
 abbrev pub all_offered : List Taken → Lists → Lists

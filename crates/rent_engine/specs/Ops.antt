@@ -5,6 +5,7 @@ use Rattle.std.specs.FinMap.{FinMap, empty, get, insert, remove}
 use Rattle.uring_entry.specs.declared.events.Completion.{Completion}
 use Rattle.uring_entry.specs.declared.buffer.Loan.{Loan}
 use Rattle.uring_entry.specs.Completions.{is_more, is_final}
+use Rattle.uring_entry.specs.Loans.{loan_buf}
 use Rattle.rent_engine.specs.declared.ops.Flight.{Flight}
 use Rattle.rent_engine.specs.declared.ops.OpDone.{OpDone}
 use Rattle.rent_engine.specs.declared.ops.Step.{Step}
@@ -49,10 +50,6 @@ is_strange_for (Some flight) c = has_strange_loan flight.lent c.user_data (is_fi
 -- a completion that no operation in flight may have
 abbrev pub is_stranger : Ops → Completion → Bool
 is_stranger ops c = is_strange_for (flight_at ops c.user_data) c
-
-abbrev pub loan_buf : Option Loan → Option (List ℕ)
-loan_buf None = None
-loan_buf (Some loan) = Some loan.buf
 
 -- what a final completion tells of its operation
 abbrev pub outcome : Completion → OpDone

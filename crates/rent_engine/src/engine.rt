@@ -2,8 +2,9 @@
 
 ghost use Rattle.std.specs.Prelude.{◌≡◌, ◌+◌, ◌<◌, ◌≤◌, ◌==◌, ◌&&◌, not, ℕ, true, false, [], ◌∷◌, length, min, Some, None, OnOk, OnErr, IfErr, IfOk, IfSome, is_some, is_ok, if◌then◌else◌};
 ghost use Rattle.std.specs.FinMap.{len};
-ghost use Rattle.rent_engine.specs.Ops.{no_ops, flight_at, knows, started, is_stranger, has_strange_loan, completed, step_of, polled, taken_out, resolved_as, AreApart, outcome, loan_buf};
-ghost use Rattle.rent_engine.specs.Engines.{asked, loan_of, Offered, Pumped, ending, finals_in, fault_buf, is_key_in_use, is_ring_full, is_no_memory, is_fault};
+ghost use Rattle.rent_engine.specs.Ops.{no_ops, flight_at, knows, started, is_stranger, has_strange_loan, completed, step_of, polled, taken_out, resolved_as, AreApart, outcome};
+ghost use Rattle.uring_entry.specs.Loans.{loan_buf};
+ghost use Rattle.rent_engine.specs.Engines.{asked, asked_cancel, loan_of, Offered, Pumped, ending, finals_in, fault_buf, is_key_in_use, is_ring_full, is_no_memory, is_fault};
 
 use crate::operations::Operations;
 use crate::ops::{EngineFault, OpDone, OpKey, OpPoll, StartFault, Step, TurnReport};
@@ -11,6 +12,7 @@ use std::alloc::Global;
 use std::marker::Model;
 use uring_entry::squeue::Entry;
 use uring_entry::{Buf, Completion, Loan, cqueue};
+use uring_ops_file::AsyncCancel;
 use uring_ring::{Parameters, UserEnds};
 use uring_submit::Submitter;
 
@@ -111,6 +113,30 @@ impl<R: UserEnds> Engine<R> {
         }
         self.operations.start(number, lent);
         Ok(OpKey { number })
+    }
+
+    /// Starts the cancel of the operation of number `target`, as an operation of its own. Its
+    /// result is the partner's: 0 where it marked an operation of that number, and -2 (`ENOENT`)
+    /// where it found none. What was marked stays in flight until its own completion.
+    pub fn cancel(
+        &mut self,
+        alloc: Global,
+        target: u64,
+        number: u64,
+    ) -> Result<OpKey, StartFault>
+        ensures key { IfOk result (λ key. key ≡ number) }
+        ensures ops { OnOk result (self.new.ops ≡ started number false self.old.ops) }
+        ensures offered { OnOk result (Offered R.used R.lists R.room R.waiting self.old.ring (asked_cancel target number ∷ []) self.new.ring) }
+        ensures key_in_use { is_key_in_use result ≡ knows self.old.ops number }
+        ensures ring_full { is_ring_full result ≡ (not (knows self.old.ops number) && (R.room self.old.ring == 0)) }
+        ensures unchanged { OnErr result ((self.new.ops ≡ self.old.ops) × (self.new.ring ≡ self.old.ring)) }
+        ensures no_buf { IfErr result (λ fault. fault_buf fault ≡ None) }
+        ensures memory { 0 < self.old.spare → is_no_memory result ≡ false }
+        ensures spare { self.old.spare ≤ self.new.spare + (if is_ok result then 1 else 0) }
+        ensures params { self.new.params ≡ self.old.params }
+    {
+        let entry = AsyncCancel::new(target).build();
+        self.start(alloc, number, entry, 0, None)
     }
 
     /// Takes one completion. A final one resolves its operation, and another is a step of it. One

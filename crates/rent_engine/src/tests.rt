@@ -59,12 +59,20 @@ fn assert_stranger<R: UserEnds>(rt: &impl Abort, engine: &mut Engine<R>, strange
     assert_eq!(rt; engine.in_flight(), 2);
 }
 
-/// Asserts that the operation is resolved with the result 0.
-fn assert_zero(rt: &impl Abort, polled: OpPoll) {
-    match polled {
-        OpPoll::Ready(done) => assert_eq!(rt; done.result, 0),
-        OpPoll::Pending(_key) => assert!(rt; false, "in flight"),
-        OpPoll::Lost(_key) => assert!(rt; false, "lost"),
+/// Asserts that the operation was started and is resolved with this result.
+fn assert_resolved<R: UserEnds>(
+    rt: &impl Abort,
+    engine: &mut Engine<R>,
+    started: Result<OpKey, StartFault>,
+    outcome: i32,
+) {
+    match started {
+        Ok(key) => match engine.poll(key) {
+            OpPoll::Ready(done) => assert_eq!(rt; done.result, outcome),
+            OpPoll::Pending(_key) => assert!(rt; false, "in flight"),
+            OpPoll::Lost(_key) => assert!(rt; false, "lost"),
+        },
+        Err(_fault) => assert!(rt; false, "not started"),
     }
 }
 
@@ -97,6 +105,7 @@ fn each_call(rt: HostRuntime) -> Result<(), Fail> {
     assert!(rt; nop_under(alloc, &mut engine, 5).is_ok());
     assert!(rt; engine.pump(alloc).is_ok());
     assert!(rt; engine.turn(alloc, &mut partner).is_ok());
+    assert!(rt; engine.cancel(alloc, 5, 6).is_ok());
     let mut op = OneOp::new(Nop::new().build(), None);
     assert!(rt; op.poll(alloc, &mut engine).is_pending());
     assert!(rt; engine.turn(alloc, &mut partner).is_ok());
@@ -121,11 +130,11 @@ fn ring_of_one(rt: HostRuntime) -> Result<(), Fail> {
         finals: 1,
     };
     assert_eq!(rt; engine.turn(alloc, &mut partner), Ok(report));
-    match started {
-        Ok(key) => assert_zero(&rt, engine.poll(key)),
-        Err(_fault) => assert!(rt; false, "not started"),
-    }
+    assert_resolved(&rt, &mut engine, started, 0);
     assert_eq!(rt; engine.fresh(), 0);
+    let canceled = engine.cancel(alloc, 9, 7);
+    assert_eq!(rt; engine.turn(alloc, &mut partner), Ok(report));
+    assert_resolved(&rt, &mut engine, canceled, -2);
     Ok(())
 }
 
@@ -174,5 +183,28 @@ fn one_read(rt: HostRuntime) -> Result<(), Fail> {
         Poll::Ready(answer) => assert_bytes(&rt, answer, b"ello"),
         Poll::Pending => assert!(rt; false, "pending"),
     }
+    Ok(())
+}
+
+/// A cancel finds what is in flight, which is then resolved by its own completion. It is refused as
+/// any operation is.
+#[test]
+fn cancels(rt: HostRuntime) -> Result<(), Fail> {
+    let alloc = rt.alloc();
+    let mut engine = engine_of(alloc, 2)?;
+    let mut partner = MemoryPartner::new(alloc);
+    let canceled = engine.cancel(alloc, 4, 3);
+    let again = engine.cancel(alloc, 4, 3);
+    assert!(rt; matches!(again, Err(StartFault::KeyInUse(None))));
+    let nop = nop_under(alloc, &mut engine, 4);
+    let other = engine.cancel(alloc, 4, 5);
+    assert!(rt; matches!(other, Err(StartFault::RingFull(None))));
+    let report = TurnReport {
+        taken: 2,
+        finals: 2,
+    };
+    assert_eq!(rt; engine.turn(alloc, &mut partner), Ok(report));
+    assert_resolved(&rt, &mut engine, canceled, 0);
+    assert_resolved(&rt, &mut engine, nop, -125);
     Ok(())
 }

@@ -1,4 +1,4 @@
--- What a read or a write gives.
+-- What the states of files give.
 use Rattle.std.specs.Prelude.{◌≡◌, ℕ, ◌+◌, ◌≤◌, ℤ, pos, negsuc, List, [], Option, Some, None, Result, Ok, Err}
 use Rattle.uring_entry.specs.declared.events.Taken.{Taken}
 use Rattle.rent_engine.specs.declared.state.Poll.{Poll}
@@ -51,9 +51,32 @@ moved (InUse buf) = (Err errors.KeyInUse, or_empty buf)
 moved (NoMemory buf) = (Err errors.NoMemory, or_empty buf)
 moved Lost = (Err errors.KeyLost, [])
 
+-- nothing but that it is done, or the errno of a negative result
+abbrev pub ended : ℤ → Result (Unit {0}) FsError
+ended (pos n) = Ok tt
+ended (negsuc n) = Err (errors.Os (n + 1))
+
+-- the output of an operation that lent no buffer
+abbrev pub synced : OneAnswer → Result (Unit {0}) FsError
+synced (Done done) = ended done.result
+synced (InUse buf) = Err errors.KeyInUse
+synced (NoMemory buf) = Err errors.NoMemory
+synced Lost = Err errors.KeyLost
+
+-- an errno that a result of 32 bits tells
+abbrev pub IsSmallFault : Result (Unit {0}) FsError → Type 0
+IsSmallFault (Ok _) = Unit {0}
+IsSmallFault (Err e) = errno_of e ≤ 2147483648
+
 -- a poll is one of the state's operation, and gives the output of that one's answer
+abbrev pub PollsAs : {T : Type 0} → (OneAnswer → T) → Stage → Ops → List Taken → Poll T → Ops → Stage → Type 0
+PollsAs output stage ops ts answer after next = (one : Poll OneAnswer) × (answer ≡ poll_map output one) × OneStep stage ops ts one after next
+
 abbrev pub MovesPolls : Stage → Ops → List Taken → Poll (Result ℕ FsError × List ℕ) → Ops → Stage → Type 0
-MovesPolls stage ops ts answer after next = (one : Poll OneAnswer) × (answer ≡ poll_map moved one) × OneStep stage ops ts one after next
+MovesPolls = PollsAs moved
+
+abbrev pub SyncPolls : Stage → Ops → List Taken → Poll (Result (Unit {0}) FsError) → Ops → Stage → Type 0
+SyncPolls = PollsAs synced
 
 abbrev pub IfReady : {T : Type 0} → Poll T → (T → Type 0) → Type 0
 IfReady (Ready answer) P = P answer

@@ -3,11 +3,13 @@
 ghost use Rattle.std.specs.Prelude.{◌≡◌, ◌+◌, ◌^◌, ◌<◌, ◌≤◌, ℕ, None, Some, length};
 ghost use Rattle.rent_engine.specs.declared.one_op.Stage.TheVariants.{Offers};
 ghost use Rattle.rent_engine.specs.OneOp.{addressed};
-ghost use Rattle.rent_fs.specs.Entries.{read_entry, write_entry};
+ghost use Rattle.rent_fs.specs.Entries.{no_flags, read_entry, sync_entry, write_entry};
 
 use crate::read_at::ReadAt;
+use crate::syncs::Sync;
 use crate::write_at::WriteAt;
 use uring_entry::Buf;
+use uring_entry::types::FsyncFlags;
 
 /// A file that a partner has under a number.
 #[derive(Clone, Copy, PartialEq, Eq, Debug)]
@@ -52,5 +54,21 @@ impl File {
         ensures entry { (n : ℕ) → addressed n (Some buf) (write_entry (number_of self.now) 0 (length buf) pos) ≡ write_entry (number_of self.now) n (length buf) pos }
     {
         WriteAt::new(self.number, buf, pos)
+    }
+
+    /// Brings all that belongs to the file to its device, as `fsync` does. Nothing is asked for
+    /// until the state is polled.
+    pub fn sync_all(&self) -> Sync
+        ensures { result ≡ Offers (record { number = None; entry = sync_entry (number_of self.now) no_flags; buf = None }) }
+    {
+        Sync::of_all(self.number)
+    }
+
+    /// Brings the file's bytes to its device, and of what describes it only what is needed to read
+    /// them back, as `fdatasync` does. Nothing is asked for until the state is polled.
+    pub fn sync_data(&self) -> Sync
+        ensures { result ≡ Offers (record { number = None; entry = sync_entry (number_of self.now) FsyncFlags.DATASYNC; buf = None }) }
+    {
+        Sync::of_data(self.number)
     }
 }

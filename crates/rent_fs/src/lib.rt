@@ -1,15 +1,18 @@
-//! Files by number, and the states of reads and writes at a position.
+//! Files by number, and the states of their reads, writes and syncs.
 #![tactic(auto)]
 
 mod error;
 mod file;
 mod moved;
 mod read_at;
+mod synced;
+mod syncs;
 mod write_at;
 
 pub use error::FsError;
 pub use file::File;
 pub use read_at::ReadAt;
+pub use syncs::Sync;
 pub use write_at::WriteAt;
 
 #[cfg(test)]

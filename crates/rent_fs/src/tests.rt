@@ -30,6 +30,18 @@ fn assert_gives(
     }
 }
 
+/// Asserts that the sync is done now, with this answer.
+fn assert_ends(
+    rt: &impl Abort,
+    polled: Poll<Result<(), FsError>>,
+    answer: Result<(), FsError>,
+) {
+    match polled {
+        Poll::Ready(given) => assert_eq!(rt; given, answer),
+        Poll::Pending => assert!(rt; false, "pending"),
+    }
+}
+
 /// Each call that can find no memory answers otherwise where there is memory: what is written is
 /// read.
 #[test]
@@ -52,6 +64,12 @@ fn each_call(rt: HostRuntime) -> Result<(), Fail> {
     assert!(rt; engine.turn(alloc, &mut partner).is_ok());
     assert_gives(&rt, read.poll(alloc, &mut engine), Ok(1), b"o\0\0");
     assert!(rt; read.is_done());
+    for mut sync in [file.sync_all(), file.sync_data()] {
+        assert!(rt; sync.poll(alloc, &mut engine).is_pending());
+        assert!(rt; engine.turn(alloc, &mut partner).is_ok());
+        assert_ends(&rt, sync.poll(alloc, &mut engine), Ok(()));
+        assert!(rt; sync.is_done());
+    }
     Ok(())
 }
 
@@ -126,5 +144,34 @@ fn what_a_hostile_partner_tells(rt: HostRuntime) -> Result<(), Fail> {
         assert!(rt; engine.turn(alloc, &mut partner).is_ok());
         assert_gives(&rt, read.poll(alloc, &mut engine), answer, b"\0\0");
     }
+    Ok(())
+}
+
+/// A sync of a file that isn't there, of a number in use, and of another engine's operation.
+#[test]
+fn syncs_that_fail(rt: HostRuntime) -> Result<(), Fail> {
+    let alloc = rt.alloc();
+    let mut engine = engine_of(alloc, 2)?;
+    let mut other = engine_of(alloc, 2)?;
+    let mut partner = MemoryPartner::new(alloc);
+    let file = File::of_number(9);
+    let mut first = file.sync_data().with_number(5).with_flags(Flags::ASYNC);
+    assert!(rt; first.poll(alloc, &mut engine).is_pending());
+    let mut second = file.sync_all().with_number(5);
+    let polled = second.poll(alloc, &mut engine);
+    assert_ends(&rt, polled, Err(FsError::KeyInUse));
+    let mut third = file.sync_all();
+    assert!(rt; third.poll(alloc, &mut engine).is_pending());
+    assert_ends(
+        &rt,
+        third.poll(alloc, &mut other),
+        Err(FsError::KeyLost),
+    );
+    assert!(rt; engine.turn(alloc, &mut partner).is_ok());
+    assert_ends(
+        &rt,
+        first.poll(alloc, &mut engine),
+        Err(FsError::Os(9)),
+    );
     Ok(())
 }

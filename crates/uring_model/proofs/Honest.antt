@@ -17,9 +17,8 @@ use Rattle.uring_model.specs.Jobs.{Job, linked}
 use Rattle.uring_model.specs.Replay.{Result, last_unlinked}
 use Rattle.uring_model.specs.Chosen.{choice, stops}
 use Rattle.uring_model.specs.Moves.{Move, Turned, Took, Posted, took, posted, log_of}
-use Rattle.uring_model.specs.Partner.{job_of, PartnerState, cut_of, Cursor, mark_first, mark_first_if, pass, answer_to, cursors, after_take, cut_after, after_settle, Steps, idle}
+use Rattle.uring_model.specs.Partner.{job_of, PartnerState, cut_of, Cursor, completion_of, mark_first, mark_first_if, pass, answer_to, cursors, after_take, cut_after, after_settle, Steps, idle}
 use Rattle.uring_model.specs.Explained.{Numbered, record_one, AllFresh}
-use Rattle.uring_model.specs.Progress.{moves_of_turn}
 use Rattle.uring_model.specs.Strange.{Seen, nothing_seen, has_other_number, has_wrong_loan, is_strange, first_strange}
 use Rattle.uring_model.specs.Honest.{TakesWithinTurns, HasOwnLoan}
 use Rattle.uring_model.proofs.Lines.{numbered_split}
@@ -179,10 +178,7 @@ no_post_is_strange lends jobs files choices ms ahead b asks numbered h own withi
     let e = moves_explained jobs files choices ms ahead b asks numbered h in
     none_strange lends false (idle files choices) b ms nothing_seen 0 (replicate (length jobs) None) h (numbered_split 0 (took ms) ahead numbered).0 (recursion_from_All (HasOwnLoan lends) (took ms) own) tt within (omega arith) e.fresh tt
 
--- for callers: what holds of all entries holds of those taken; turns in a row
-
-pub own_split : (lends : ℕ → Bool) (ts ahead : List Taken) → All (HasOwnLoan lends) (ts ++ ahead) → All (HasOwnLoan lends) ts
-own_split lends ts ahead h = All-from_recursion (HasOwnLoan lends) ts (each_split (HasOwnLoan lends) ts ahead (recursion_from_All (HasOwnLoan lends) (ts ++ ahead) h)).0
+-- turns in a row
 
 within_more : (left more : ℕ) (ms : List Move) → left ≤ more → TakesWithinTurns left ms → TakesWithinTurns more ms
 within_more left more [] h k = tt
@@ -196,39 +192,27 @@ within-append left (Turned p ∷ ms) ns h k = within-append p ms ns h k
 within-append left (Took t ∷ ms) ns h k = (h.0, within-append (left - 1) ms ns h.1 k)
 within-append left (Posted c ∷ ms) ns h k = within-append left ms ns h k
 
-within_posts : (left : ℕ) (cs : List Completion) → TakesWithinTurns left (map Posted cs)
-within_posts left [] = tt
-within_posts left (c ∷ cs) = within_posts left cs
-
-within_takes : (left : ℕ) (ts : List Taken) (cs : List Completion) → length ts ≤ left → TakesWithinTurns left (map Took ts ++ map Posted cs)
-within_takes left [] cs h = within_posts left cs
-within_takes left (t ∷ ts) cs h = (omega arith, within_takes (left - 1) ts cs (omega arith))
-
-pub within_turn : (left p : ℕ) (ts : List Taken) (cs : List Completion) → length ts ≤ p → TakesWithinTurns left (moves_of_turn p ts cs)
-within_turn left p ts cs h = within_takes p ts cs h
-
--- what holds of the loan of each entry taken, whatever its bytes, holds of each loan posted
-
-abbrev pub EachPost : (Completion → Type 0) → List Completion → Type 0
-EachPost P [] = Unit {0}
-EachPost P (c ∷ cs) = P c × EachPost P cs
-
-abbrev pub OfLoan : (ℕ → Option Loan → Type 0) → Taken → Type 0
-OfLoan P t = P t.entry.user_data t.loan
-
-pub posts_keep : (P : ℕ → Option Loan → Type 0) → ((j : ℕ) (l : Option Loan) (bytes : List ℕ) → P j l → P j (with_part l bytes)) → (over : Bool) (a b : PartnerState) (ms : List Move)
-    → Steps over a ms b → AllByRecursion (OfLoan P) (map (λ i. i.taken) a.pending) → AllByRecursion (OfLoan P) (took ms) → EachPost (λ c. P c.user_data c.loan) (posted ms)
-posts_keep P f over a b [] h pend own = tt
-posts_keep P f over a b (Turned p ∷ ms) h pend own = posts_keep P f false a b ms h pend own
-posts_keep P f over a b (Took t ∷ ms) h pend own =
-    let more : AllByRecursion (OfLoan P) (entries_of (after_take a t).pending) =
-    subst (AllByRecursion (OfLoan P)) (sym (map-append (λ i. i.taken) a.pending (record { taken = t; cut = cut_of a.tail; marked = false } ∷ []))) (each-append (OfLoan P) (entries_of a.pending) (t ∷ []) pend (own.0, tt)) in
-    posts_keep P f false (after_take a t) b ms h.1 more own.1
-posts_keep P f over a b (Posted c ∷ ms) h pend own =
+-- what holds of each answer to an entry of which something holds, holds of each post
+answers_all : (asks : Taken → Bool) (answers : Completion → Bool) → ((now : Files) (c : Cursor) → asks c.item.taken ≡ true → answers (completion_of c.item.taken (answer_to now c)) ≡ true) → (over : Bool) (a b : PartnerState) (ms : List Move)
+    → Steps over a ms b → Each (λ t. asks t ≡ true) (entries_of a.pending) → Each (λ t. asks t ≡ true) (took ms) → AllByRecursion (λ c. answers c ≡ true) (posted ms)
+answers_all asks answers f over a b [] h pend own = tt
+answers_all asks answers f over a b (Turned p ∷ ms) h pend own = answers_all asks answers f false a b ms h pend own
+answers_all asks answers f over a b (Took t ∷ ms) h pend own =
+    let more : Each (λ t. asks t ≡ true) (entries_of (after_take a t).pending) =
+    subst (Each (λ t. asks t ≡ true)) (sym (map-append (λ i. i.taken) a.pending (record { taken = t; cut = cut_of a.tail; marked = false } ∷ []))) (each-append (λ t. asks t ≡ true) (entries_of a.pending) (t ∷ []) pend (own.0, tt)) in
+    answers_all asks answers f false (after_take a t) b ms h.1 more own.1
+answers_all asks answers f over a b (Posted c ∷ ms) h pend own =
     let k = h.1.cursor in
     let y = answer_to a.files k in
-    let here = subst (AllByRecursion (OfLoan P)) (cursor_entries a k ((choice a.choices / 2) % length (cursors a)) h.1.chosen) pend in
-    let parts = each_split (OfLoan P) (entries_of k.front) (k.item.taken ∷ entries_of k.back) here in
-    let left = subst (AllByRecursion (OfLoan P)) (sym (left_entries a k y)) (each-append (OfLoan P) (entries_of k.front) (entries_of k.back) parts.0 parts.1.1) in
-    let post : P c.user_data c.loan = subst (λ x. P x.user_data x.loan) (sym h.1.completion) (f k.item.taken.entry.user_data k.item.taken.loan y.buf parts.1.0) in
-    (post, posts_keep P f (stops (choice a.choices)) (after_settle a k y) b ms h.2 left own)
+    let here = subst (Each (λ t. asks t ≡ true)) (cursor_entries a k ((choice a.choices / 2) % length (cursors a)) h.1.chosen) pend in
+    let parts = each_split (λ t. asks t ≡ true) (entries_of k.front) (k.item.taken ∷ entries_of k.back) here in
+    let left = subst (Each (λ t. asks t ≡ true)) (sym (left_entries a k y)) (each-append (λ t. asks t ≡ true) (entries_of k.front) (entries_of k.back) parts.0 parts.1.1) in
+    (ap answers h.1.completion ∙ f a.files k parts.1.0, answers_all asks answers f (stops (choice a.choices)) (after_settle a k y) b ms h.2 left own)
+
+pub posts_answer : (asks : Taken → Bool) (answers : Completion → Bool) (files : Files) (choices : List ℕ) (ms : List Move) (b : PartnerState)
+    → ((now : Files) (c : Cursor) → asks c.item.taken ≡ true → answers (completion_of c.item.taken (answer_to now c)) ≡ true)
+    → Steps false (idle files choices) ms b
+    → All (λ t. asks t ≡ true) (took ms) → All (λ c. answers c ≡ true) (posted ms)
+posts_answer asks answers files choices ms b f h own =
+    All-from_recursion (λ c. answers c ≡ true) (posted ms)
+    (answers_all asks answers f false (idle files choices) b ms h tt (recursion_from_All (λ t. asks t ≡ true) (took ms) own))

@@ -50,6 +50,10 @@ CallsAreExplained =
     (jobs : List Job) (files : Files) (choices : List ℕ) (ms : List Move) (ahead : List Taken) (b : PartnerState)
     → map job_of (took ms ++ ahead) ≡ last_unlinked jobs → Numbered 0 (took ms ++ ahead) → IsServed (Some (idle files choices)) ms (Some b) → Explained jobs files choices ms b
 
+-- whole calls to a partner that is idle are moves from its files and choices
+abbrev pub IdleCallsAreMoves : Type 0
+IdleCallsAreMoves = (a b : PartnerState) (ms : List Move) → IsIdle a → IsServed (Some a) ms (Some b) → Steps false (idle a.files a.choices) ms b
+
 -- the same for whole calls to any partner that is idle
 abbrev pub IdlePartnersAreExplained : Type 0
 IdlePartnersAreExplained =

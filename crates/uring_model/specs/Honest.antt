@@ -1,11 +1,12 @@
 -- A partner whose files are told posts nothing strange.
-use Rattle.std.specs.Prelude.{◌≡◌, ℕ, ◌-◌, ◌<◌, Bool, false, is_some, List, [], ◌∷◌, ◌++◌, map, None, All}
+use Rattle.std.specs.Prelude.{◌≡◌, ℕ, ◌-◌, ◌<◌, Bool, true, false, is_some, List, [], ◌∷◌, ◌++◌, map, None, All}
 use Rattle.uring_entry.specs.declared.events.Taken.{Taken}
+use Rattle.uring_entry.specs.declared.events.Completion.{Completion}
 use Rattle.uring_model.specs.Machine.{Files}
 use Rattle.uring_model.specs.Jobs.{Job}
 use Rattle.uring_model.specs.Replay.{last_unlinked}
-use Rattle.uring_model.specs.Moves.{Move, Turned, Took, Posted, took, log_of}
-use Rattle.uring_model.specs.Partner.{job_of, PartnerState, Steps, idle}
+use Rattle.uring_model.specs.Moves.{Move, Turned, Took, Posted, took, posted, log_of}
+use Rattle.uring_model.specs.Partner.{job_of, PartnerState, Cursor, answer_to, completion_of, Steps, idle}
 use Rattle.uring_model.specs.Explained.{Numbered}
 use Rattle.uring_model.specs.Strange.{nothing_seen, has_other_number, first_strange}
 
@@ -28,3 +29,12 @@ NoPostIsStrange =
     → map job_of (took ms ++ ahead) ≡ last_unlinked jobs → Numbered 0 (took ms ++ ahead) → Steps false (idle files choices) ms b
     → All (HasOwnLoan lends) (took ms) → TakesWithinTurns 0 ms
     → first_strange lends nothing_seen (log_of ms) ≡ None
+
+-- Each post answers an entry that was taken: what holds of every answer to an entry of which something holds, holds of each
+-- post, where that holds of each entry.
+abbrev pub PostsAnswer : Type 0
+PostsAnswer =
+    (asks : Taken → Bool) (answers : Completion → Bool) (files : Files) (choices : List ℕ) (ms : List Move) (b : PartnerState)
+    → ((now : Files) (c : Cursor) → asks c.item.taken ≡ true → answers (completion_of c.item.taken (answer_to now c)) ≡ true)
+    → Steps false (idle files choices) ms b
+    → All (λ t. asks t ≡ true) (took ms) → All (λ c. answers c ≡ true) (posted ms)

@@ -11,6 +11,7 @@ pub mod Asked
 pub mod Progress
 pub mod Ends
 pub mod Honest
+pub mod Joins
 pub mod Words
 pub mod Rows
 pub use Rattle.uring_entry.specs.Sizes as Sizes

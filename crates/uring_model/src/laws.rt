@@ -1,9 +1,10 @@
 //! Laws of the definitions, each the contract of a function that does nothing.
 
-ghost use Rattle.uring_model.specs.Explained.{MovesAreExplained, CallsAreExplained, IdlePartnersAreExplained};
+ghost use Rattle.uring_model.specs.Explained.{MovesAreExplained, CallsAreExplained, IdleCallsAreMoves, IdlePartnersAreExplained};
 ghost use Rattle.uring_model.specs.Progress.{LowestMaySettle, FrontIsReady, TurnsAreMoves, TurnsPost, PostsFitRoom, PostingTurns, PostingTurnsJoin, NoneIsLost, TurnsAreFew};
 ghost use Rattle.uring_model.specs.Ends.{SetWhereWhole, WholeWhereSet, WholeByCount, WholeAtEnd, IdleWhereWhole};
-ghost use Rattle.uring_model.specs.Honest.{NoPostIsStrange};
+ghost use Rattle.uring_model.specs.Honest.{NoPostIsStrange, PostsAnswer};
+ghost use Rattle.uring_model.specs.Joins.{MovesJoin, NoMoveStays, TurnsPostTheirs};
 ghost use Rattle.uring_model.specs.Words.{MayInWords, SeveredInWords, ReadyInWords, PlaceInWords, CancelInWords, MarkInWords};
 
 /// What an idle partner does over entries that ask what the jobs ask makes a journal that
@@ -12,6 +13,7 @@ pub fn partner_replays()
     ensures moves { MovesAreExplained }
     ensures calls { CallsAreExplained }
     ensures from_idle { IdlePartnersAreExplained }
+    ensures as_moves { IdleCallsAreMoves }
 {}
 
 /// The lowest open job may always settle, and the entry in front is always ready.
@@ -45,9 +47,18 @@ pub fn whole_at_the_end()
     ensures idle { IdleWhereWhole }
 {}
 
-/// An idle partner posts only jobs that were started, each once, with its own loan.
+/// An idle partner posts only jobs that were started, each once, with its own loan, and each post
+/// answers an entry that it took.
 pub fn no_stranger()
-    ensures { NoPostIsStrange }
+    ensures honest { NoPostIsStrange }
+    ensures answers { PostsAnswer }
+{}
+
+/// The moves of calls in a row are those of one run, and no call leaves all as it was.
+pub fn moves_join()
+    ensures join { MovesJoin }
+    ensures none { NoMoveStays }
+    ensures turn { TurnsPostTheirs }
 {}
 
 /// What the recursions on rows say of the jobs.

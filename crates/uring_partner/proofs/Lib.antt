@@ -1,5 +1,6 @@
 pub mod Ready
 pub mod Marks
+pub mod Bound
 pub mod Among
 pub mod Settled
 pub mod Turns

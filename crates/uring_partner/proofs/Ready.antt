@@ -25,7 +25,7 @@ Counts xs i n = n + length (ready_cursors (take i xs) (drop i xs)) ≡ length (r
 pub scan_first : (xs : List Pending) → Scans xs 0 false true
 scan_first xs = record { inside = omega arith; waits = refl; undrained = refl }
 
-held-append : (w : Bool) (xs ys : List Pending) → held w (xs ++ ys) ≡ held (held w xs) ys
+pub held-append : (w : Bool) (xs ys : List Pending) → held w (xs ++ ys) ≡ held (held w xs) ys
 held-append w [] ys = refl
 held-append w (x ∷ xs) ys = held-append (linked (job_of x.taken).link) xs ys
 
@@ -41,7 +41,7 @@ and_assoc : (a b c : Bool) → (a && (b && c)) ≡ ((a && b) && c)
 and_assoc true b c = refl
 and_assoc false b c = refl
 
-drain-append : (xs : List Pending) (y : Pending) → no_drain (xs ++ y ∷ []) ≡ (no_drain xs && not (job_of y.taken).drain)
+pub drain-append : (xs : List Pending) (y : Pending) → no_drain (xs ++ y ∷ []) ≡ (no_drain xs && not (job_of y.taken).drain)
 drain-append [] y = true_and (not (job_of y.taken).drain)
 drain-append (x ∷ xs) y = ap (λ b. not (job_of x.taken).drain && b) (drain-append xs y) ∙ and_assoc (not (job_of x.taken).drain) (no_drain xs) (not (job_of y.taken).drain)
 
@@ -83,7 +83,7 @@ ready_next xs i x e =
 skipped : {A : Type 0} (b : Bool) (x : A) (xs : List A) → b ≡ false → keep_if b x xs ≡ xs
 skipped b x xs e = rw e refl
 
-kept : {A : Type 0} (b : Bool) (x : A) (xs : List A) → b ≡ true → keep_if b x xs ≡ x ∷ xs
+pub kept : {A : Type 0} (b : Bool) (x : A) (xs : List A) → b ≡ true → keep_if b x xs ≡ x ∷ xs
 kept b x xs e = rw e refl
 
 pub seek_skips : (xs : List Pending) (wanted i left : ℕ) (x : Pending) → slice_get xs i ≡ Some x → is_ready (take i xs) x ≡ false → Seeks xs wanted i left → Seeks xs wanted (i + 1) left

@@ -1,4 +1,5 @@
 pub mod Calls
+pub mod Bound
 pub mod Marks
 pub mod Settling
 pub mod Told

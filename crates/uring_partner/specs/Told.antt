@@ -5,7 +5,7 @@ use Rattle.uring_model.specs.Partner.{PartnerState}
 use Rattle.uring_partner.specs.declared.memory.MemoryPartner.{MemoryPartner}
 
 abbrev pub state_of : MemoryPartner → PartnerState
-state_of p = record { files = p.files; pending = p.pending.items; tail = p.tail; choices = p.choices.items }
+state_of p = record { files = p.files; pending = p.pending.items.items; tail = p.tail; choices = p.choices.items }
 
 abbrev pub told_state : MemoryPartner → Option PartnerState
 told_state p = Some (state_of p)

@@ -5,6 +5,7 @@ ghost use Rattle.std.specs.VecDeque.{deque_len};
 ghost use Rattle.uring_model.specs.Jobs.{linked, is_soft};
 ghost use Rattle.uring_model.specs.Partner.{job_of, has_unmarked, mark_first, mark_first_if, pass, pass_end};
 ghost use Rattle.uring_model.specs.declared.pending.Pending.{Pending};
+ghost use Rattle.uring_partner.specs.Bound.{bound_in};
 ghost use Rattle.uring_partner.specs.Marks.{IsFirstUnmarked, IsToldCut};
 
 use std::collections::VecDeque;
@@ -50,7 +51,8 @@ pub fn can_mark(pending: &VecDeque<Pending>, number: u64) -> bool
 
 /// Marks the first unmarked entry with this number.
 fn mark_one(pending: &mut VecDeque<Pending>, number: u64)
-    ensures { pending.new.items ≡ mark_first number pending.old.items }
+    ensures marked { pending.new.items ≡ mark_first number pending.old.items }
+    ensures bound { bound_in pending.new.items ≡ bound_in pending.old.items }
 {
     match find_unmarked(pending, number) {
         Some(place) => pending[place].marked = true,
@@ -60,7 +62,8 @@ fn mark_one(pending: &mut VecDeque<Pending>, number: u64)
 
 /// Marks what a settling marks.
 pub fn mark_if(pending: &mut VecDeque<Pending>, marks: Option<u64>)
-    ensures { pending.new.items ≡ mark_first_if marks pending.old.items }
+    ensures marked { pending.new.items ≡ mark_first_if marks pending.old.items }
+    ensures bound { bound_in pending.new.items ≡ bound_in pending.old.items }
 {
     match marks {
         Some(number) => mark_one(pending, number),
@@ -71,7 +74,8 @@ pub fn mark_if(pending: &mut VecDeque<Pending>, marks: Option<u64>)
 /// Tells the entry at `place` whether it is cut.
 pub fn tell_cut(pending: &mut VecDeque<Pending>, place: usize, cut: bool)
     requires { place < deque_len pending.old }
-    ensures { IsToldCut pending.old.items place cut pending.new.items }
+    ensures told { IsToldCut pending.old.items place cut pending.new.items }
+    ensures bound { bound_in pending.new.items ≡ bound_in pending.old.items }
 {
     pending[place].cut = cut;
 }
@@ -86,6 +90,7 @@ pub fn pass_on(
 )
     ensures pending { (front back : List Pending) → pending.old.items ≡ front ++ back → length front ≡ place → pending.new.items ≡ front ++ pass is_linked cut back }
     ensures tail { (front back : List Pending) → pending.old.items ≡ front ++ back → length front ≡ place → tail.new ≡ pass_end is_linked cut back tail.old }
+    ensures bound { bound_in pending.new.items ≡ bound_in pending.old.items }
 {
     if is_linked {
         if place < pending.len() {

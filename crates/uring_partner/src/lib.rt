@@ -6,6 +6,7 @@ mod chain;
 mod hostile;
 mod logging;
 mod memory;
+mod pending_list;
 mod plan;
 mod scan;
 mod settle;

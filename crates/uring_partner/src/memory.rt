@@ -3,8 +3,8 @@
 ghost use Rattle.std.specs.Prelude.{◌≡◌, ◌<◌, [], ◌∷◌, ◌++◌, true, vec_len, vec_capacity};
 
 use crate::call::{EnterCall, PartnerError};
-use crate::chain::{mark_if, pass_on};
 use crate::logging::{event_at, push_known};
+use crate::pending_list::PendingList;
 use crate::plan::pass_enter;
 use crate::scan::chosen_place;
 use crate::settle::settle;
@@ -26,7 +26,7 @@ mod tests;
 #[derive(Drop)]
 pub struct MemoryPartner {
     files: Files,
-    pending: VecDeque<Pending>,
+    pending: PendingList,
     // Where the entry taken last has a link: whether the next one is cut.
     tail: Option<bool>,
     choices: VecDeque<u32>,
@@ -59,7 +59,7 @@ impl MemoryPartner {
     {
         MemoryPartner {
             files: Files::new(alloc),
-            pending: VecDeque::new(alloc),
+            pending: PendingList::new(alloc),
             tail: None,
             choices: VecDeque::new(alloc),
             log: Vec::new(alloc),
@@ -72,14 +72,14 @@ impl MemoryPartner {
     pub fn is_idle(&self) -> bool
         ensures { IsTrue result ↔ IsIdle (state_of self.now) }
     {
-        self.pending.is_empty() && self.tail.is_none()
+        self.pending.items.is_empty() && self.tail.is_none()
     }
 
     /// How many entries are taken and unsettled.
     pub fn pending(&self) -> usize
         ensures { result ≡ length (state_of self.now).pending }
     {
-        self.pending.len()
+        self.pending.items.len()
     }
 
     /// How many bytes the file of this number has.
@@ -161,7 +161,7 @@ impl MemoryPartner {
         ensures err { OnErr result (GoesBy Q.moved self.old self.new side.old side.new [] × (state_of self.new ≡ state_of self.old)) }
     {
         self.log.try_reserve(1)?;
-        self.pending.try_reserve(1)?;
+        self.pending.reserve_one()?;
         let Some(taken) = side.take() else {
             unreachable!();
         };
@@ -170,7 +170,7 @@ impl MemoryPartner {
         push_known(&mut self.log, LogEvent::Take { job, entry });
         let cut = self.tail == Some(true);
         self.tail = if has_link(&taken) { Some(false) } else { None };
-        self.pending.push_back_reserved(Pending {
+        self.pending.push_reserved(Pending {
             taken,
             cut,
             marked: false,
@@ -191,7 +191,7 @@ impl MemoryPartner {
 
     /// Settles the ready entry that the next choice names, and gives what is to be posted.
     fn settle_next(&mut self, alloc: Global) -> Result<Completion, AllocError>
-        requires { 0 < deque_len self.old.pending }
+        requires { 0 < deque_len self.old.pending.items }
         ensures ok { IfOk result (λ c. (s : Settles (state_of self.old) c) × (state_of self.new ≡ after_settle (state_of self.old) s.cursor (answer_to self.old.files s.cursor))) }
         ensures log { IfOk result (λ c. self.new.log.items ≡ self.old.log.items ++ logged (Posted c) ∷ []) }
         ensures err { OnErr result ((state_of self.new ≡ state_of self.old) × (self.new.log.items ≡ self.old.log.items)) }
@@ -200,26 +200,22 @@ impl MemoryPartner {
     {
         self.log.try_reserve(1)?;
         let place = chosen_place(&self.pending, self.next_choice());
-        let Some(mut item) = self.pending.remove(place) else {
-            unreachable!();
-        };
-        match settle(alloc, &mut self.files, &self.pending, &mut item) {
+        let mut item = self.pending.take_out(place);
+        match settle(
+            alloc,
+            &mut self.files,
+            &self.pending.items,
+            &mut item,
+        ) {
             Err(error) => {
-                if let Err(_refused) = self.pending.insert(place, item) {
-                    unreachable!();
-                }
+                self.pending.put_back(place, item);
                 Err(error)
             }
             Ok(settled) => {
                 let is_linked = has_link(&item.taken);
-                pass_on(
-                    &mut self.pending,
-                    &mut self.tail,
-                    place,
-                    is_linked,
-                    settled.cut,
-                );
-                mark_if(&mut self.pending, settled.answered.marks);
+                self.pending
+                    .pass_on(&mut self.tail, place, is_linked, settled.cut);
+                self.pending.mark_if(settled.answered.marks);
                 let _used = self.choices.pop_front();
                 let job = item.taken.entry.user_data;
                 let outcome = settled.answered.result;
@@ -233,7 +229,7 @@ impl MemoryPartner {
     fn settle_all<Q: PartnerSide>(&mut self, alloc: Global, side: &mut Q) -> Result<(), AllocError>
         ensures moves { (n : ℕ) × GoesBy Q.moved self.old self.new side.old side.new (map Posted (settle_turn n (state_of self.old)).posts) × (state_of self.new ≡ (settle_turn n (state_of self.old)).state) × OnOk result (IfSome (Q.lists side.old) (λ l. settle_turn n (state_of self.old) ≡ settle_turn (room_of l) (state_of self.old))) }
     {
-        while !self.pending.is_empty() {
+        while !self.pending.items.is_empty() {
             if side.room() == 0 {
                 return Ok(());
             }

@@ -5,6 +5,7 @@ ghost use Rattle.std.specs.VecDeque.{deque_len};
 ghost use Rattle.uring_model.specs.Jobs.{linked};
 ghost use Rattle.uring_model.specs.Partner.{Cursor, job_of, named, ready_cursors};
 
+use crate::pending_list::PendingList;
 use std::collections::VecDeque;
 use uring_model::{Pending, has_link, is_drained};
 
@@ -62,15 +63,19 @@ pub fn place_of_ready(pending: &VecDeque<Pending>, wanted: usize) -> usize
     unreachable!()
 }
 
-/// Where the ready entry stands that a choice names.
-pub fn chosen_place(pending: &VecDeque<Pending>, choice: u32) -> usize
-    requires { 0 < deque_len pending.now }
-    ensures { (c : Cursor) × (named choice (ready_cursors [] pending.now.items) ≡ Some c) × (length c.front ≡ result) }
+/// Where the ready entry stands that a choice names. The pending entries are scanned only where one
+/// of them has a link or a drain.
+pub fn chosen_place(pending: &PendingList, choice: u32) -> usize
+    requires { 0 < deque_len pending.now.items }
+    ensures { (c : Cursor) × (named choice (ready_cursors [] pending.now.items.items) ≡ Some c) × (length c.front ≡ result) }
 {
     let half = (choice / 2) as usize;
     if half == 0 {
         return 0;
     }
-    let count = count_ready(pending);
-    place_of_ready(pending, half % count)
+    if pending.bound == 0 {
+        return half % pending.items.len();
+    }
+    let count = count_ready(&pending.items);
+    place_of_ready(&pending.items, half % count)
 }

@@ -1,9 +1,11 @@
 -- The entries of the jobs ask what the jobs ask, carry their numbers, and lend their buffers.
-use Rattle.std.proofs.Common.{◌≡◌, ℕ, ◌+◌, ◌<◌, ◌≤◌, ◌^◌, suc, Bool, true, false, not, cond, nat_eq, nat_lt, List, [], ◌∷◌, length, map, Some, refl, ap, ◌∙◌, arith}
+use Rattle.std.proofs.Common.{◌≡◌, ℕ, ◌+◌, ◌<◌, ◌≤◌, ◌^◌, suc, Bool, true, false, ◌&&◌, not, cond, nat_eq, nat_lt, List, [], ◌∷◌, length, map, Option, Some, None, is_some, refl, ap, ◌∙◌, arith}
 use Rattle.std.specs.Int.{w32, cast_signed, cast_unsigned}
 use Rattle.std.specs.List.{AllByRecursion}
 use Rattle.std.proofs.lemmas.Bool.Decides.{nat_tests}
 use Rattle.std.proofs.lemmas.Int.{of_z-to_z}
+use Rattle.uring_entry.specs.declared.buffer.Loan.{Loan}
+use Rattle.uring_entry.specs.declared.events.Taken.{Taken}
 use Rattle.uring_model.specs.declared.jobs.Job.{Job}
 use Rattle.uring_model.specs.declared.jobs.JobKind.{JobKind}
 use Rattle.uring_model.specs.declared.jobs.JobKind.TheVariants.{Nop, Read, Write, Fsync, Ftruncate, Cancel}
@@ -18,7 +20,10 @@ use Rattle.uring_model.specs.Explained.{Numbered}
 use Rattle.uring_model.specs.Strange.{has_other_number}
 use Rattle.uring_model.specs.Honest.{HasOwnLoan}
 use Rattle.uring_ring.specs.Lists.{small}
-use Rattle.uring_run.specs.Entries.{words_of, with_drain, with_link, loan_of, offer_of, offers_from, all_taken, lends_in, AllValid, IsInRange, AllInRange}
+use Rattle.uring_run.specs.Entries.{words_of, with_drain, with_link, loan_of, offer_of, offers_from, all_taken, reply_in, AllValid, IsInRange, AllInRange}
+use Rattle.uring_run.specs.Told.{reply_for, lends}
+use Rattle.uring_run.specs.declared.slot.Reply.{Reply}
+use Rattle.uring_run.specs.declared.slot.Reply.TheVariants.{Plain, Buffer, Success}
 use Rattle.uring_run.proofs.EntryLemmas.{valid_fits}
 
 -- what an entry of a file asks
@@ -101,19 +106,74 @@ own_number j (Fsync file) = refl
 own_number j (Ftruncate file len) = refl
 own_number j (Cancel target) = refl
 
-abbrev pub Lends : (ℕ → Bool) → ℕ → List Job → Type 0
-Lends lends n jobs = (k : ℕ) → lends (n + k) ≡ lends_in (offers_from n jobs) k
+-- what the outcomes of jobs that are numbered from n on tell
+abbrev pub Replies : (ℕ → Reply) → ℕ → List Job → Type 0
+Replies replies n jobs = (k : ℕ) → replies (n + k) ≡ reply_in (offers_from n jobs) k
 
-pub lends_next : (lends : ℕ → Bool) (n : ℕ) (job next : Job) (jobs : List Job) → Lends lends n (job ∷ next ∷ jobs) → Lends lends (n + 1) (next ∷ jobs)
-lends_next lends n job next jobs f = λ k. ap lends (omega arith) ∙ f (suc k)
+pub replies_next : (replies : ℕ → Reply) (n : ℕ) (job next : Job) (jobs : List Job) → Replies replies n (job ∷ next ∷ jobs) → Replies replies (n + 1) (next ∷ jobs)
+replies_next replies n job next jobs f = λ k. ap replies (omega arith) ∙ f (suc k)
 
-pub lends_here : (lends : ℕ → Bool) (n : ℕ) (b : Bool) → lends (n + 0) ≡ b → lends n ≡ b
-lends_here lends n b e = ap lends (omega arith) ∙ e
+pub replies_here : (replies : ℕ → Reply) (n : ℕ) (reply : Reply) → replies (n + 0) ≡ reply → replies n ≡ reply
+replies_here replies n reply e = ap replies (omega arith) ∙ e
 
-pub own_all : (lends : ℕ → Bool) (n : ℕ) (jobs : List Job) → Lends lends n jobs → AllByRecursion (HasOwnLoan lends) (all_taken (offers_from n jobs))
-own_all lends n [] f = tt
-own_all lends n (job ∷ []) f = (record { lent = lends_here lends n _ (f 0); number = own_number n job.kind }, tt)
-own_all lends n (job ∷ next ∷ jobs) f = (record { lent = lends_here lends n _ (f 0); number = own_number n job.kind }, own_all lends (n + 1) (next ∷ jobs) (lends_next lends n job next jobs f))
+pub replies_first : (jobs : List Job) → Replies (reply_in (offers_from 0 jobs)) 0 jobs
+replies_first jobs = λ k. ap (reply_in (offers_from 0 jobs)) (omega arith)
 
-pub lends_first : (jobs : List Job) → Lends (lends_in (offers_from 0 jobs)) 0 jobs
-lends_first jobs = λ k. ap (lends_in (offers_from 0 jobs)) (omega arith)
+lends_given : (n : ℕ) (kind : JobKind) → lends (reply_for kind) ≡ is_some (loan_of n kind)
+lends_given n Nop = refl
+lends_given n (Read file offset buf) = refl
+lends_given n (Write file offset buf) = refl
+lends_given n (Fsync file) = refl
+lends_given n (Ftruncate file len) = refl
+lends_given n (Cancel job) = refl
+
+pub own_all : (replies : ℕ → Reply) (lent : ℕ → Bool) → ((j : ℕ) → lent j ≡ lends (replies j)) → (n : ℕ) (jobs : List Job) → Replies replies n jobs → AllByRecursion (HasOwnLoan lent) (all_taken (offers_from n jobs))
+own_all replies lent e n [] f = tt
+own_all replies lent e n (job ∷ []) f = (record { lent = e n ∙ ap lends (replies_here replies n _ (f 0)) ∙ lends_given n job.kind; number = own_number n job.kind }, tt)
+own_all replies lent e n (job ∷ next ∷ jobs) f = (
+  record { lent = e n ∙ ap lends (replies_here replies n _ (f 0)) ∙ lends_given n job.kind; number = own_number n job.kind },
+  own_all replies lent e (n + 1) (next ∷ jobs) (replies_next replies n job next jobs f),
+)
+
+-- An entry lends what its job's outcome gives back, from the first byte on, and asks for a sync where the outcome tells no
+-- more than that it went well.
+
+abbrev pub is_lent : Reply → Option Loan → Bool
+is_lent reply None = not (lends reply)
+is_lent reply (Some l) = lends reply && nat_eq l.from 0
+
+abbrev pub is_sync : machine.Op → Bool
+is_sync (machine.Fsync file) = true
+is_sync machine.Nop = false
+is_sync (machine.Read file offset) = false
+is_sync (machine.Write file offset) = false
+is_sync (machine.Ftruncate file len) = false
+is_sync (machine.Cancel job) = false
+is_sync (machine.Refused code) = false
+
+abbrev pub is_asked : Reply → machine.Op → Bool
+is_asked Plain op = true
+is_asked Buffer op = true
+is_asked Success op = is_sync op
+
+abbrev pub asks : (ℕ → Reply) → Taken → Bool
+asks replies t = is_lent (replies t.entry.user_data) t.loan && is_asked (replies t.entry.user_data) (job_of t).op
+
+asks_kind : (n : ℕ) (kind : JobKind) → (is_lent (reply_for kind) (loan_of n kind) && is_asked (reply_for kind) (op_asked kind)) ≡ true
+asks_kind n Nop = refl
+asks_kind n (Read file offset buf) = refl
+asks_kind n (Write file offset buf) = refl
+asks_kind n (Fsync file) = refl
+asks_kind n (Ftruncate file len) = refl
+asks_kind n (Cancel job) = refl
+
+asks_entry : (n : ℕ) (kind : JobKind) (reply : Reply) (op : machine.Op) → reply ≡ reply_for kind → op ≡ op_asked kind → (is_lent reply (loan_of n kind) && is_asked reply op) ≡ true
+asks_entry n kind reply op e f = (λ i. is_lent (e i) (loan_of n kind) && is_asked (e i) (f i)) ∙ asks_kind n kind
+
+pub asks_list : (replies : ℕ → Reply) (n : ℕ) (jobs : List Job) → Replies replies n jobs → AllValid jobs → AllInRange jobs → AllByRecursion (λ t. asks replies t ≡ true) (all_taken (offers_from n jobs))
+asks_list replies n [] f v r = tt
+asks_list replies n (job ∷ []) f v r = (asks_entry n job.kind _ _ (replies_here replies n _ (f 0)) (ap (λ j. j.op) (asks_marked n job.kind job.drain Free (valid_fits job v.0) r.0)), tt)
+asks_list replies n (job ∷ next ∷ jobs) f v r = (
+  asks_entry n job.kind _ _ (replies_here replies n _ (f 0)) (ap (λ j. j.op) (asks_one n job v.0 r.0)),
+  asks_list replies (n + 1) (next ∷ jobs) (replies_next replies n job next jobs f) v.1 r.1,
+)

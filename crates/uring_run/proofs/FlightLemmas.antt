@@ -14,10 +14,12 @@ use Rattle.rent_engine.specs.declared.ops.OpPoll.{OpPoll}
 use Rattle.rent_engine.specs.declared.ops.OpPoll.TheVariants.{Ready, Pending}
 use Rattle.rent_engine.specs.Ops as engine
 use Rattle.rent_engine.specs.Ops.{Ops, flight_at, done_at, knows, started, has_strange_loan, is_strange_for, completed, resolved, outcome, polled, polled_done, taken_out}
+use Rattle.uring_run.specs.declared.slot.Reply.{Reply}
 use Rattle.uring_run.specs.declared.slot.Slot.{Slot}
 use Rattle.uring_run.specs.declared.slot.Slot.TheVariants.{Open, Done}
+use Rattle.uring_run.specs.Told.{lends}
 use Rattle.uring_run.specs.Slots.{is_strange_at, is_stranger}
-use Rattle.uring_run.specs.Flights.{IsOpen, WasLent, flight_of, flight_in, outcome_polled, polled_slot, polled_from, all_polled, with_polled, left_by, times_in, AreOperated, NoneResolved}
+use Rattle.uring_run.specs.Flights.{WasLent, flight_of, flight_in, outcome_polled, polled_slot, polled_from, all_polled, with_polled, left_by, times_in, AreOperated, NoneResolved}
 
 -- lists by their places
 
@@ -79,10 +81,11 @@ pub none_polled : (ops : Ops) (slots : List Slot) → NoneResolved ops → all_p
 none_polled ops slots h = none_from 0 ops slots h
 
 -- a slot that is open once all is polled was open, and its job isn't resolved
-pub still_open : (slot : Option Slot) (done : Option OpDone) (lends : Bool) → polled_at slot done ≡ Some (Open lends) → (done ≡ None) × (slot ≡ Some (Open lends))
-still_open None answer lends e = cc
-still_open (Some slot) None lends e = (refl, e)
-still_open (Some slot) (Some done) lends e = let bad : Some (Done (outcome_polled done)) ≡ Some (Open lends) = e in cc
+pub still_open : (slot : Option Slot) (done : Option OpDone) (reply : Reply) → polled_at slot done ≡ Some (Open reply) → (done ≡ None) × (slot ≡ Some (Open reply))
+still_open None answer reply e = cc
+still_open (Some slot) None reply e = (refl, e)
+still_open (Some (Open r)) (Some done) reply e = let bad : Some (Done (outcome_polled r done)) ≡ Some (Open reply) = e in cc
+still_open (Some (Done o)) (Some done) reply e = let bad : Some (Done o) ≡ Some (Open reply) = e in cc
 
 -- strangers
 
@@ -102,7 +105,7 @@ loan_strange lends n last (Some loan) = by_number lends last (nat_eq loan.number
 
 strange_in : (b : Bool) (slot : Option Slot) (c : Completion) → is_strange_for (cond b (flight_of slot) None) c ≡ (not b || is_strange_at slot c)
 strange_in true None c = refl
-strange_in true (Some (Open lends)) c = loan_strange lends c.user_data (is_final c.flags) c.loan
+strange_in true (Some (Open reply)) c = loan_strange (lends reply) c.user_data (is_final c.flags) c.loan
 strange_in true (Some (Done o)) c = refl
 strange_in false slot c = refl
 
@@ -111,12 +114,12 @@ pub same_stranger : (ops : Ops) (begun : ℕ) (slots : List Slot) (c : Completio
 same_stranger ops begun slots c e = ap (λ o. is_strange_for o c) e ∙ strange_in (nat_lt c.user_data begun) (slice_get slots c.user_data) c
 
 -- an operation in flight is of a started job with an open slot
-pub flight_open : (b : Bool) (slot : Option Slot) (flight : Flight) → cond b (flight_of slot) None ≡ Some flight → (b ≡ true) × (slot ≡ Some (Open flight.lent)) × (flight.forgotten ≡ false)
+pub flight_open : (b : Bool) (slot : Option Slot) (flight : Flight) → cond b (flight_of slot) None ≡ Some flight → (reply : Reply) × (b ≡ true) × (slot ≡ Some (Open reply)) × (lends reply ≡ flight.lent) × (flight.forgotten ≡ false)
 flight_open true None flight e = let bad : None ≡ Some flight = e in cc
-flight_open true (Some (Open lends)) flight e =
-    let same : Some (record { lent = lends; forgotten = false }) ≡ Some flight = e in
-    let f : record { lent = lends; forgotten = false } ≡ flight = cc in
-    (refl, ap (λ (x : Flight). Some (Open x.lent)) f, sym (ap (λ (x : Flight). x.forgotten) f))
+flight_open true (Some (Open reply)) flight e =
+    let same : Some (record { lent = lends reply; forgotten = false }) ≡ Some flight = e in
+    let f : record { lent = lends reply; forgotten = false } ≡ flight = cc in
+    (reply, refl, refl, ap (λ (x : Flight). x.lent) f, sym (ap (λ (x : Flight). x.forgotten) f))
 flight_open true (Some (Done o)) flight e = let bad : None ≡ Some flight = e in cc
 flight_open false slot flight e = let bad : None ≡ Some flight = e in cc
 
@@ -151,24 +154,24 @@ itself n = grind (arith, nat_tests)
 
 -- a job that is in flight isn't resolved
 pub apart : (ops : Ops) (begun : ℕ) (slots : List Slot) (jobs : List ℕ) → AreOperated ops begun slots jobs → (n : ℕ) (flight : Flight) → flight_at ops n ≡ Some flight
-    → (n < begun) × (slice_get slots n ≡ Some (Open flight.lent)) × (done_at ops n ≡ None) × (slice_get (all_polled ops slots) n ≡ Some (Open flight.lent)) × (flight.forgotten ≡ false)
+    → (reply : Reply) × (n < begun) × (slice_get slots n ≡ Some (Open reply)) × (done_at ops n ≡ None) × (slice_get (all_polled ops slots) n ≡ Some (Open reply)) × (lends reply ≡ flight.lent) × (flight.forgotten ≡ false)
 apart ops begun slots jobs a n flight e =
     let p = flight_open (nat_lt n begun) (slice_get (all_polled ops slots) n) flight (sym (a.in_flight n) ∙ e) in
-    let q = still_open (slice_get slots n) (done_at ops n) flight.lent (sym (at_all ops slots n) ∙ p.1) in
-    (below p.0, q.1, q.0, p.1, p.2)
+    let q = still_open (slice_get slots n) (done_at ops n) p.0 (sym (at_all ops slots n) ∙ p.2) in
+    (p.0, below p.1, q.1, q.0, p.2, p.3, p.4)
   where
     below : nat_lt n begun ≡ true → n < begun
     below h = grind (arith, nat_tests)
 
 -- one poll
 
-abbrev pub Polls : Ops → ℕ → List Slot → ℕ → List ℕ → List ℕ → OpPoll → Ops → Type 0
-Polls ops begun slots job rest left poll ops' =
-    AreOperated ops' begun (with_polled job poll slots) (rest ++ (left ++ left_by poll job))
+abbrev pub Polls : Reply → Ops → ℕ → List Slot → ℕ → List ℕ → List ℕ → OpPoll → Ops → Type 0
+Polls reply ops begun slots job rest left poll ops' =
+    AreOperated ops' begun (with_polled reply job poll slots) (rest ++ (left ++ left_by poll job))
     × NoneLeftResolved ops' (left ++ left_by poll job)
-    × (all_polled ops' (with_polled job poll slots) ≡ all_polled ops slots)
+    × (all_polled ops' (with_polled reply job poll slots) ≡ all_polled ops slots)
 
-module _ (ops : Ops) (begun : ℕ) (slots : List Slot) (job : ℕ) (rest left : List ℕ) (a : AreOperated ops begun slots (job ∷ (rest ++ left))) (h : NoneLeftResolved ops left) where
+module _ (reply : Reply) (ops : Ops) (begun : ℕ) (slots : List Slot) (job : ℕ) (rest left : List ℕ) (a : AreOperated ops begun slots (job ∷ (rest ++ left))) (h : NoneLeftResolved ops left) (o : IfSome (done_at ops job) (λ _. slice_get slots job ≡ Some (Open reply))) where
   listed_known : knows ops job ≡ true
   listed_known =
       let e = a.listed job in
@@ -176,7 +179,7 @@ module _ (ops : Ops) (begun : ℕ) (slots : List Slot) (job : ℕ) (rest left : 
       let one : times_in job (job ∷ (rest ++ left)) ≡ 1 + times_in job (rest ++ left) = rw here refl in
       known_once (knows ops job) (times_in job (job ∷ (rest ++ left))) e (omega (arith, one))
 
-  pub pending : (flight : Flight) → flight_at ops job ≡ Some flight → Polls ops begun slots job rest left (Pending job) ops
+  pub pending : (flight : Flight) → flight_at ops job ≡ Some flight → Polls reply ops begun slots job rest left (Pending job) ops
   pending flight e =
       let p = apart ops begun slots (job ∷ (rest ++ left)) a job flight e in (
         record {
@@ -192,7 +195,7 @@ module _ (ops : Ops) (begun : ℕ) (slots : List Slot) (job : ℕ) (rest left : 
         (λ n some.
             let z = times-append n left (job ∷ []) in
             let l = h n some in
-            let other : nat_eq job n ≡ false = to_false (nat_eq job n) (λ same. let bad : true ≡ false = sym some ∙ ap (λ m. is_some (done_at ops m)) (sym (same_number job n same)) ∙ ap is_some p.2 in cc) in
+            let other : nat_eq job n ≡ false = to_false (nat_eq job n) (λ same. let bad : true ≡ false = sym some ∙ ap (λ m. is_some (done_at ops m)) (sym (same_number job n same)) ∙ ap is_some p.3 in cc) in
             let c : times_in n (job ∷ []) ≡ 0 = rw other refl in
             omega (arith, z, l, c)),
         refl,
@@ -210,10 +213,10 @@ module _ (ops : Ops) (begun : ℕ) (slots : List Slot) (job : ℕ) (rest left : 
     taken = record ops { done = remove ops.done job }
 
     abbrev filled : List Slot
-    filled = slice_set slots job (Done (outcome_polled done))
+    filled = slice_set slots job (Done (outcome_polled reply done))
 
-    was_open : IsOpen slots job
-    was_open = (is_some done.buf, subst (λ o. IfSome o (WasLent slots job)) some (a.resolved job))
+    was_open : slice_get slots job ≡ Some (Open reply)
+    was_open = subst (λ d. IfSome d (λ _. slice_get slots job ≡ Some (Open reply))) some o
 
     taken_here : done_at taken job ≡ None
     taken_here = at_remove ops.done job job ∙ ap (λ b. cond b None (done_at ops job)) (itself job)
@@ -224,8 +227,8 @@ module _ (ops : Ops) (begun : ℕ) (slots : List Slot) (job : ℕ) (rest left : 
     same_at : (k : ℕ) → polled_at (slice_get filled k) (done_at taken k) ≡ polled_at (slice_get slots k) (done_at ops k)
     same_at k = either_way job k _
         (λ e. subst (λ m. polled_at (slice_get filled m) (done_at taken m) ≡ polled_at (slice_get slots m) (done_at ops m)) e
-        ((λ i. polled_at (set_here slots job (Open was_open.0) (Done (outcome_polled done)) was_open.1 i) (taken_here i)) ∙ (λ i. polled_at (sym was_open.1 i) (sym some i))))
-        (λ e. λ i. polled_at (set_else slots job k (Done (outcome_polled done)) e i) (taken_else k e i))
+        ((λ i. polled_at (set_here slots job (Open reply) (Done (outcome_polled reply done)) was_open i) (taken_here i)) ∙ (λ i. polled_at (sym was_open i) (sym some i))))
+        (λ e. λ i. polled_at (set_else slots job k (Done (outcome_polled reply done)) e i) (taken_else k e i))
 
     same_slots : all_polled taken filled ≡ all_polled ops slots
     same_slots = same_lists _ _ (λ k. at_all taken filled k ∙ same_at k ∙ sym (at_all ops slots k))
@@ -233,7 +236,7 @@ module _ (ops : Ops) (begun : ℕ) (slots : List Slot) (job : ℕ) (rest left : 
     still_resolved : (n : ℕ) → IfSome (done_at taken n) (WasLent filled n)
     still_resolved n = either_way job n _
         (λ e. subst (λ m. IfSome (done_at taken m) (WasLent filled m)) e (subst (λ o. IfSome o (WasLent filled job)) (sym taken_here) tt))
-        (λ e. subst (λ o. IfSome o (WasLent filled n)) (sym (taken_else n e)) (if_then (done_at ops n) (WasLent slots n) (WasLent filled n) (λ d p. set_else slots job n (Done (outcome_polled done)) e ∙ p) (a.resolved n)))
+        (λ e. subst (λ o. IfSome o (WasLent filled n)) (sym (taken_else n e)) (if_then (done_at ops n) (WasLent slots n) (WasLent filled n) (λ d w. record { reply = w.reply; slot = set_else slots job n (Done (outcome_polled reply done)) e ∙ w.slot; lent = w.lent }) (a.resolved n)))
 
     still_listed : (n : ℕ) → times_in n (rest ++ left) ≡ cond (knows taken n) 1 0
     still_listed n = either_way job n _
@@ -254,7 +257,7 @@ module _ (ops : Ops) (begun : ℕ) (slots : List Slot) (job : ℕ) (rest left : 
         (λ e. let bad : true ≡ false = sym s ∙ ap (λ m. is_some (done_at taken m)) (sym e) ∙ ap is_some taken_here in absurd (subst T bad tt))
         (λ e. h n (ap is_some (sym (taken_else n e)) ∙ s))
 
-    pub ready : Polls ops begun slots job rest left (Ready done) taken
+    pub ready : Polls reply ops begun slots job rest left (Ready done) taken
     ready = (
       subst (λ l. AreOperated taken begun filled (rest ++ l)) (sym (append-nil left)) (record {
         in_flight = λ n. a.in_flight n ∙ ap (λ s. flight_in begun s n) (sym same_slots);
@@ -265,13 +268,13 @@ module _ (ops : Ops) (begun : ℕ) (slots : List Slot) (job : ℕ) (rest left : 
       same_slots,
     )
 
-  by_poll : (o : Option Flight) (p : Option OpDone) → flight_at ops job ≡ o → done_at ops job ≡ p → Polls ops begun slots job rest left (cond (is_some o) (Pending job) (polled_done job p)) (cond (is_some o) ops (record ops { done = remove ops.done job }))
+  by_poll : (o : Option Flight) (p : Option OpDone) → flight_at ops job ≡ o → done_at ops job ≡ p → Polls reply ops begun slots job rest left (cond (is_some o) (Pending job) (polled_done job p)) (cond (is_some o) ops (record ops { done = remove ops.done job }))
   by_poll (Some flight) p e f = pending flight e
   by_poll None (Some done) e f = ready done e f
   by_poll None None e f = absurd (lost e f)
 
   -- what one poll makes of the operations and the slots
-  pub one_poll : Polls ops begun slots job rest left (polled ops job) (taken_out job ops)
+  pub one_poll : Polls reply ops begun slots job rest left (polled ops job) (taken_out job ops)
   one_poll = by_poll (flight_at ops job) (done_at ops job) refl refl
 
 -- once each is polled nothing is resolved
@@ -299,14 +302,14 @@ cons_head : {A : Type 0} (x y : A) (xs ys : List A) → x ∷ xs ≡ y ∷ ys �
 cons_head x y xs ys e = (cc, cc)
 
 -- one more job is polled
-pub polled_next : (ops : Ops) (begun : ℕ) (slots : List Slot) (job : ℕ) (rest left behind : List ℕ) → rest ++ left ≡ job ∷ behind → (length rest ≡ 0 → ⊥) → AreOperated ops begun slots (rest ++ left) → NoneLeftResolved ops left
-    → (ops' : Ops) (begun' : ℕ) (slots' : List Slot) (jobs' : List ℕ) → ops' ≡ taken_out job ops → slots' ≡ with_polled job (polled ops job) slots → begun' ≡ begun → jobs' ≡ behind ++ left_by (polled ops job) job
+pub polled_next : (reply : Reply) (ops : Ops) (begun : ℕ) (slots : List Slot) (job : ℕ) (rest left behind : List ℕ) → rest ++ left ≡ job ∷ behind → (length rest ≡ 0 → ⊥) → AreOperated ops begun slots (rest ++ left) → NoneLeftResolved ops left → IfSome (done_at ops job) (λ _. slice_get slots job ≡ Some (Open reply))
+    → (ops' : Ops) (begun' : ℕ) (slots' : List Slot) (jobs' : List ℕ) → ops' ≡ taken_out job ops → slots' ≡ with_polled reply job (polled ops job) slots → begun' ≡ begun → jobs' ≡ behind ++ left_by (polled ops job) job
     → (rest' : List ℕ) × (left' : List ℕ) × (jobs' ≡ rest' ++ left') × (suc (length rest') ≡ length rest) × AreOperated ops' begun' slots' (rest' ++ left') × NoneLeftResolved ops' left' × (all_polled ops' slots' ≡ all_polled ops slots)
-polled_next ops begun slots job [] left behind e some a h ops' begun' slots' jobs' f g k l = absurd (some refl)
-polled_next ops begun slots job (x ∷ rest) left behind e some a h ops' begun' slots' jobs' f g k l =
+polled_next reply ops begun slots job [] left behind e some a h o ops' begun' slots' jobs' f g k l = absurd (some refl)
+polled_next reply ops begun slots job (x ∷ rest) left behind e some a h o ops' begun' slots' jobs' f g k l =
     let p = cons_head x job (rest ++ left) behind e in
     let b : AreOperated ops begun slots (job ∷ (rest ++ left)) = subst (λ y. AreOperated ops begun slots (y ∷ (rest ++ left))) p.0 a in
-    let q = one_poll ops begun slots job rest left b h in
+    let q = one_poll reply ops begun slots job rest left b h o in
     let kept = left ++ left_by (polled ops job) job in (
       rest,
       kept,

@@ -6,34 +6,24 @@ use Rattle.uring_entry.specs.declared.events.Completion.{Completion}
 use Rattle.uring_entry.specs.Completions.{is_final}
 use Rattle.uring_model.specs.declared.jobs.Job.{Job}
 use Rattle.uring_model.specs.declared.jobs.Outcome.{Outcome}
-use Rattle.uring_model.specs.Jobs.{moves_bytes, op_asked}
 use Rattle.uring_model.specs.Moves.{Move, Turned, Took, Posted, took, posted, log_of}
 use Rattle.uring_model.specs.Progress.{turns}
 use Rattle.uring_model.specs.Strange.{Seen, has_other_number, has_wrong_loan, is_strange, first_strange}
 use Rattle.uring_ring.specs.Lists.{IsKept}
+use Rattle.uring_run.specs.declared.slot.Reply.{Reply}
 use Rattle.uring_run.specs.declared.slot.Slot.{Slot}
 use Rattle.uring_run.specs.declared.slot.Slot.TheVariants.{Open, Done}
-use Rattle.uring_model.specs.declared.jobs.JobKind.{JobKind}
-use Rattle.uring_model.specs.declared.jobs.JobKind.TheVariants.{Nop, Read, Write, Fsync, Ftruncate, Cancel}
 use Rattle.uring_run.specs.declared.entries.Offer.{Offer}
-use Rattle.uring_run.specs.Entries.{lends_in, loan_of, offers_from}
-use Rattle.uring_run.specs.Told.{Ending, first_final, quiet_turns, outcome_from}
-use Rattle.uring_run.specs.Slots.{final_of, told_slot, slots_from, count_open, is_strange_at, is_stranger, open_slots, land_one, land_all, stranger_among, any_final}
+use Rattle.uring_run.specs.Entries.{reply_in, lends_in, offers_from}
+use Rattle.uring_run.specs.Told.{Ending, first_final, quiet_turns, reply_for, lends, outcome_from}
+use Rattle.uring_run.specs.Slots.{final_of, told_slot, slots_from, count_open, is_strange_at, is_stranger, open_slots, land_in, land_one, land_all, stranger_among, any_final}
 use Rattle.uring_run.proofs.SlotLemmas.{count_of_done, due_open}
-
-loan_given : (n : ℕ) (kind : JobKind) → is_some (loan_of n kind) ≡ moves_bytes (op_asked kind)
-loan_given n Nop = refl
-loan_given n (Read file offset buf) = refl
-loan_given n (Write file offset buf) = refl
-loan_given n (Fsync file) = refl
-loan_given n (Ftruncate file len) = refl
-loan_given n (Cancel job) = refl
 
 -- the slots before the run are those of the jobs
 pub slots_first : (n : ℕ) (jobs : List Job) → slots_from n (offers_from n jobs) [] ≡ open_slots jobs
 slots_first n [] = refl
-slots_first n (job ∷ []) = ap (λ b. Open b ∷ []) (loan_given n job.kind)
-slots_first n (job ∷ next ∷ jobs) = λ i. Open (loan_given n job.kind i) ∷ slots_first (n + 1) (next ∷ jobs) i
+slots_first n (job ∷ []) = refl
+slots_first n (job ∷ next ∷ jobs) = ap (λ slots. Open (reply_for job.kind) ∷ slots) (slots_first (n + 1) (next ∷ jobs))
 
 pub slots-length : (n : ℕ) (offers : List Offer) (cs : List Completion) → length (slots_from n offers cs) ≡ length offers
 slots-length n [] cs = refl
@@ -67,34 +57,34 @@ slots_same n [] cs c f = refl
 slots_same n (offer ∷ offers) cs c f =
     let here = final_not n cs c (f n (omega arith)) in
     let rest = slots_same (n + 1) offers cs c (λ j h. f j (omega arith)) in
-    λ i. told_slot (is_some offer.loan) (here i) ∷ rest i
+    λ i. told_slot offer.reply (here i) ∷ rest i
 
-open_none : (lends l : Bool) (o : Option Ending) → Some (told_slot lends o) ≡ Some (Open l) → o ≡ None
-open_none lends l None e = refl
-open_none lends l (Some x) e = cc
+open_none : (reply r : Reply) (o : Option Ending) → Some (told_slot reply o) ≡ Some (Open r) → (o ≡ None) × (r ≡ reply)
+open_none reply r None e = let same : Some (Open reply) ≡ Some (Open r) = e in (refl, cc)
+open_none reply r (Some x) e = cc
 
-lands_at : (n k : ℕ) (offers : List Offer) (cs : List Completion) (c : Completion) (l : Bool) → is_final c.flags ≡ true → c.user_data ≡ n + k → slice_get (slots_from n offers cs) k ≡ Some (Open l)
-    → slice_set (slots_from n offers cs) k (Done (outcome_from (record { result = c.result; loan = c.loan }))) ≡ slots_from n offers (cs ++ c ∷ [])
-lands_at n k [] cs c l f e h = cc
-lands_at n zero (offer ∷ offers) cs c l f e h =
-    let none = open_none (is_some offer.loan) l (final_of n cs) h in
+lands_at : (n k : ℕ) (offers : List Offer) (cs : List Completion) (c : Completion) (r : Reply) → is_final c.flags ≡ true → c.user_data ≡ n + k → slice_get (slots_from n offers cs) k ≡ Some (Open r)
+    → slice_set (slots_from n offers cs) k (Done (outcome_from r (record { result = c.result; loan = c.loan }))) ≡ slots_from n offers (cs ++ c ∷ [])
+lands_at n k [] cs c r f e h = cc
+lands_at n zero (offer ∷ offers) cs c r f e h =
+    let none = open_none offer.reply r (final_of n cs) h in
     let same : nat_eq c.user_data n ≡ true = grind (arith, nat_tests) in
     let both : (is_final c.flags && nat_eq c.user_data n) ≡ true = rw (f, same) refl in
-    let here = final_last n cs c none both in
+    let here = final_last n cs c none.0 both in
     let rest = slots_same (n + 1) offers cs c (λ j q. let other : nat_eq c.user_data j ≡ false = grind (arith, nat_tests) in no_match (is_final c.flags) (nat_eq c.user_data j) other) in
-    λ i. told_slot (is_some offer.loan) (sym here i) ∷ sym rest i
-lands_at n (suc k) (offer ∷ offers) cs c l f e h =
+    ap (λ x. Done (outcome_from x (record { result = c.result; loan = c.loan })) ∷ slots_from (n + 1) offers cs) none.1 ∙ (λ i. told_slot offer.reply (sym here i) ∷ sym rest i)
+lands_at n (suc k) (offer ∷ offers) cs c r f e h =
     let other : nat_eq c.user_data n ≡ false = grind (arith, nat_tests) in
     let here = final_not n cs c (no_match (is_final c.flags) (nat_eq c.user_data n) other) in
-    let rest = lands_at (n + 1) k offers cs c l f (omega arith) h in
-    λ i. told_slot (is_some offer.loan) (sym here i) ∷ rest i
+    let rest = lands_at (n + 1) k offers cs c r f (omega arith) h in
+    λ i. told_slot offer.reply (sym here i) ∷ rest i
 
 -- a completion that is no stranger lands where its job stands
 lands_if : (b : Bool) (started : ℕ) (offers : List Offer) (cs : List Completion) (c : Completion) → is_final c.flags ≡ b → is_stranger started (slots_from 0 offers cs) c ≡ false
-    → cond b (slice_set (slots_from 0 offers cs) c.user_data (Done (outcome_from (record { result = c.result; loan = c.loan })))) (slots_from 0 offers cs) ≡ slots_from 0 offers (cs ++ c ∷ [])
+    → cond b (land_in (slice_get (slots_from 0 offers cs) c.user_data) (slots_from 0 offers cs) c.user_data (record { result = c.result; loan = c.loan })) (slots_from 0 offers cs) ≡ slots_from 0 offers (cs ++ c ∷ [])
 lands_if true started offers cs c f h =
     let o = due_open started (slots_from 0 offers cs) c h in
-    lands_at 0 c.user_data offers cs c o.0 f (omega arith) o.1
+    ap (λ slot. land_in slot (slots_from 0 offers cs) c.user_data (record { result = c.result; loan = c.loan })) o.1 ∙ lands_at 0 c.user_data offers cs c o.0 f (omega arith) o.1
 lands_if false started offers cs c f h = sym (slots_same 0 offers cs c (λ j q. no_final (is_final c.flags) (nat_eq c.user_data j) f))
 
 pub lands : (started : ℕ) (offers : List Offer) (cs : List Completion) (c : Completion) → is_stranger started (slots_from 0 offers cs) c ≡ false → land_one (slots_from 0 offers cs) c ≡ slots_from 0 offers (cs ++ c ∷ [])
@@ -112,26 +102,26 @@ lands_all started offers cs (d ∷ ds) h =
 
 -- the slot of a job inside
 
-pub slot_found : (n k : ℕ) (offers : List Offer) (cs : List Completion) → k < length offers → slice_get (slots_from n offers cs) k ≡ Some (told_slot (lends_in offers k) (final_of (n + k) cs))
+pub slot_found : (n k : ℕ) (offers : List Offer) (cs : List Completion) → k < length offers → slice_get (slots_from n offers cs) k ≡ Some (told_slot (reply_in offers k) (final_of (n + k) cs))
 slot_found n k [] cs h = absurd (omega arith)
-slot_found n zero (offer ∷ offers) cs h = ap (λ m. Some (told_slot (is_some offer.loan) (final_of m cs))) (omega arith)
-slot_found n (suc k) (offer ∷ offers) cs h = slot_found (n + 1) k offers cs (omega arith) ∙ ap (λ m. Some (told_slot (lends_in offers k) (final_of m cs))) (omega arith)
+slot_found n zero (offer ∷ offers) cs h = ap (λ m. Some (told_slot offer.reply (final_of m cs))) (omega arith)
+slot_found n (suc k) (offer ∷ offers) cs h = slot_found (n + 1) k offers cs (omega arith) ∙ ap (λ m. Some (told_slot (reply_in offers k) (final_of m cs))) (omega arith)
 
 -- the log's offers that ended are those with a final completion
 abbrev pub Tells : Seen → List Completion → Type 0
 Tells seen cs = (j : ℕ) → list_any (nat_eq j) seen.ended ≡ is_some (final_of j cs)
 
-strange_slot : (lends : Bool) (o : Option Ending) (c : Completion) (ended : Bool) → ended ≡ is_some o → is_strange_at (Some (told_slot lends o)) c ≡ ((ended || has_other_number c.user_data c.loan) || has_wrong_loan lends (is_final c.flags) c.loan)
-strange_slot lends None c ended e = rw e refl
-strange_slot lends (Some x) c ended e = rw e refl
+strange_slot : (reply : Reply) (o : Option Ending) (c : Completion) (ended : Bool) → ended ≡ is_some o → is_strange_at (Some (told_slot reply o)) c ≡ ((ended || has_other_number c.user_data c.loan) || has_wrong_loan (lends reply) (is_final c.flags) c.loan)
+strange_slot reply None c ended e = rw e refl
+strange_slot reply (Some x) c ended e = rw e refl
 
 strange_if : (b : Bool) (offers : List Offer) (cs : List Completion) (c : Completion) (ended : Bool) → (b ≡ true → c.user_data < length offers) → ended ≡ is_some (final_of c.user_data cs)
     → (not b || is_strange_at (slice_get (slots_from 0 offers cs) c.user_data) c) ≡ (((not b || ended) || has_other_number c.user_data c.loan) || has_wrong_loan (lends_in offers c.user_data) (is_final c.flags) c.loan)
 strange_if false offers cs c ended inside e = refl
 strange_if true offers cs c ended inside e =
     let same : 0 + c.user_data ≡ c.user_data = omega arith in
-    ap (λ s. is_strange_at s c) (slot_found 0 c.user_data offers cs (inside refl) ∙ ap (λ m. Some (told_slot (lends_in offers c.user_data) (final_of m cs))) same)
-    ∙ strange_slot (lends_in offers c.user_data) (final_of c.user_data cs) c ended e
+    ap (λ s. is_strange_at s c) (slot_found 0 c.user_data offers cs (inside refl) ∙ ap (λ m. Some (told_slot (reply_in offers c.user_data) (final_of m cs))) same)
+    ∙ strange_slot (reply_in offers c.user_data) (final_of c.user_data cs) c ended e
 
 below_yes : (m n : ℕ) → nat_lt m n ≡ true → m < n
 below_yes m n e = grind (arith, nat_tests)
@@ -252,18 +242,21 @@ same_final j (Posted c ∷ ms) = ap (cond (is_final c.flags && nat_eq c.user_dat
 
 -- counts of open slots
 
-landed_count : (b : Bool) (started : ℕ) (slots : List Slot) (c : Completion) → is_stranger started slots c ≡ false → (o : Outcome) → count_open (cond b (slice_set slots c.user_data (Done o)) slots) + cond b 1 0 ≡ count_open slots
-landed_count true started slots c h o = let p = due_open started slots c h in omega (arith, count_of_done slots c.user_data p.0 o p.1)
-landed_count false started slots c h o = omega arith
+landed_count : (b : Bool) (started : ℕ) (slots : List Slot) (c : Completion) → is_stranger started slots c ≡ false → (e : Ending) → count_open (cond b (land_in (slice_get slots c.user_data) slots c.user_data e) slots) + cond b 1 0 ≡ count_open slots
+landed_count true started slots c h e =
+    let p = due_open started slots c h in
+    let landed : count_open (land_in (slice_get slots c.user_data) slots c.user_data e) ≡ count_open (slice_set slots c.user_data (Done (outcome_from p.0 e))) = ap (λ slot. count_open (land_in slot slots c.user_data e)) p.1 in
+    omega (arith, landed, count_of_done slots c.user_data p.0 (outcome_from p.0 e) p.1)
+landed_count false started slots c h e = omega arith
 
 pub one_landed : (started : ℕ) (slots : List Slot) (c : Completion) → is_stranger started slots c ≡ false → count_open (land_one slots c) + cond (is_final c.flags) 1 0 ≡ count_open slots
-one_landed started slots c h = landed_count (is_final c.flags) started slots c h (outcome_from (record { result = c.result; loan = c.loan }))
+one_landed started slots c h = landed_count (is_final c.flags) started slots c h (record { result = c.result; loan = c.loan })
 
 pub none_landed : (slots : List Slot) (cs : List Completion) → any_final cs ≡ false → land_all slots cs ≡ slots
 none_landed slots [] h = refl
 none_landed slots (c ∷ cs) h =
     let p = or_parts (is_final c.flags) (any_final cs) h in
-    ap (λ b. land_all (cond b (slice_set slots c.user_data (Done (outcome_from (record { result = c.result; loan = c.loan })))) slots) cs) p.0
+    ap (λ b. land_all (cond b (land_in (slice_get slots c.user_data) slots c.user_data (record { result = c.result; loan = c.loan })) slots) cs) p.0
     ∙ none_landed slots cs p.1
   where
     or_parts : (a b : Bool) → (a || b) ≡ false → (a ≡ false) × (b ≡ false)
@@ -283,7 +276,7 @@ all_landed started slots (c ∷ cs) h =
 
 pub open_few : (n : ℕ) (offers : List Offer) (cs : List Completion) → count_open (slots_from n offers cs) ≤ length offers
 open_few n [] cs = omega arith
-open_few n (offer ∷ offers) cs = elim (final_of n cs) as (λ o. count_open (told_slot (is_some offer.loan) o ∷ slots_from (n + 1) offers cs) ≤ suc (length offers)) [
+open_few n (offer ∷ offers) cs = elim (final_of n cs) as (λ o. count_open (told_slot offer.reply o ∷ slots_from (n + 1) offers cs) ≤ suc (length offers)) [
   | None ↦ let h = open_few (n + 1) offers cs in omega arith
   | Some x ↦ let h = open_few (n + 1) offers cs in omega arith
 ]
@@ -295,7 +288,7 @@ all_open n (offer ∷ offers) = let h = all_open (n + 1) offers in omega arith
 -- an open slot is an offer without a final completion
 pub open_job : (n : ℕ) (offers : List Offer) (cs : List Completion) → 0 < count_open (slots_from n offers cs) → (k : ℕ) × (k < length offers) × (final_of (n + k) cs ≡ None)
 open_job n [] cs h = absurd (omega arith)
-open_job n (offer ∷ offers) cs h = elim (final_of n cs) as (λ o. final_of n cs ≡ o → 0 < count_open (told_slot (is_some offer.loan) o ∷ slots_from (n + 1) offers cs) → (k : ℕ) × (k < suc (length offers)) × (final_of (n + k) cs ≡ None)) [
+open_job n (offer ∷ offers) cs h = elim (final_of n cs) as (λ o. final_of n cs ≡ o → 0 < count_open (told_slot offer.reply o ∷ slots_from (n + 1) offers cs) → (k : ℕ) × (k < suc (length offers)) × (final_of (n + k) cs ≡ None)) [
   | None ↦ λ e q. (0, omega arith, ap (λ m. final_of m cs) (omega arith) ∙ e)
   | Some x ↦ λ e q. let r = open_job (n + 1) offers cs q in (suc r.0, omega (arith, r.1), ap (λ m. final_of m cs) (omega arith) ∙ r.2)
 ] refl h
@@ -305,7 +298,7 @@ open_job n (offer ∷ offers) cs h = elim (final_of n cs) as (λ o. final_of n c
 big_apart : (slot : Option Slot) (c : Completion) (big : List ℕ) → is_strange_at slot (record c { big = big }) ≡ is_strange_at slot c
 big_apart None c big = refl
 big_apart (Some (Done o)) c big = refl
-big_apart (Some (Open lends)) c big = refl
+big_apart (Some (Open reply)) c big = refl
 
 kept_stranger : (kept : Completion → Completion) → ((c : Completion) → IsKept c (kept c)) → (started : ℕ) (slots : List Slot) (c : Completion) → is_stranger started slots (kept c) ≡ is_stranger started slots c
 kept_stranger kept k started slots c =

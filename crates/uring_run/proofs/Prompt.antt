@@ -8,11 +8,10 @@ use Rattle.uring_model.specs.Moves.{Move, Turned, took, posted}
 use Rattle.uring_model.specs.Partner.{PartnerState, Cursor, cursors, named, Steps, IsServed, IsIdle, after_take, cut_of}
 use Rattle.uring_model.specs.Progress.{moves_of_turn}
 use Rattle.uring_model.specs.Turn.{Outturn, turn, take_all, settle_turn, settle_then, settled_by, stays}
-use Rattle.uring_model.proofs.Progress.{conserved}
-use Rattle.uring_model.proofs.Whole.{whole_posts}
 use Rattle.uring_ring.specs.Lists.{Lists, room_of}
 use Rattle.uring_partner.specs.Calls.{IsTurnOf}
 use Rattle.uring_run.specs.declared.slot.Slot.{Slot}
+use Rattle.uring_run.specs.Laws.{ModelLaws}
 use Rattle.uring_run.specs.Slots.{count_open, is_stranger, land_one, land_all, stranger_among, any_final}
 use Rattle.uring_run.proofs.Posts.{one_landed}
 
@@ -64,16 +63,16 @@ pub same_turn : (p q : ℕ) (rest : List Move) (ts : List Taken) (cs : List Comp
 same_turn p q rest ts cs ms e f = let h : ◌≡◌ {A = List Move} (Turned p ∷ rest) (moves_of_turn q ts cs) = sym e ∙ f in cc
 
 -- a turn of such a partner posts, while a job is open
-pub turn_pays : (a b : PartnerState) (run ms rest : List Move) (at : Lists) (n p capacity unfinished : ℕ) → IsIdle a → Steps true a run b → (w : IsTurnOf b at ms) → ms ≡ Turned p ∷ rest
+pub turn_pays : (laws : ModelLaws) (a b : PartnerState) (run ms rest : List Move) (at : Lists) (n p capacity unfinished : ℕ) → IsIdle a → Steps true a run b → (w : IsTurnOf b at ms) → ms ≡ Turned p ∷ rest
     → (p ≡ capacity) ⊎ (length (took run) + p ≡ n) → 0 < capacity → 0 < room_of at → unfinished + length (posted run) ≡ n → 0 < unfinished
     → 0 < length (turn w.ts (room_of at) b).posts
-turn_pays a b run ms rest at n p capacity unfinished idle steps w moves full cap room count left =
+turn_pays laws a b run ms rest at n p capacity unfinished idle steps w moves full cap room count left =
     let number : p ≡ length w.ts = same_turn p (length w.ts) rest w.ts (turn w.ts (room_of at) b).posts ms moves w.moves in
-    let kept : length (posted run) + length b.pending ≡ length a.pending + length (took run) = conserved true a b run steps in
+    let kept : length (posted run) + length b.pending ≡ length a.pending + length (took run) = laws.none_lost true a b run steps in
     let none : length a.pending ≡ 0 = ap length idle.pending in
     let taken = take_count b w.ts in
     let some : 0 < length (take_all b w.ts).pending = elim full [
       | inl e ↦ omega (arith, number, cap, e, taken)
       | inr e ↦ omega (arith, number, e, kept, none, taken, count, left)
     ] in
-    whole_posts (room_of at) w.ts b some room
+    laws.some_posts (room_of at) w.ts b some room

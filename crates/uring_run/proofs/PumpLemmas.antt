@@ -4,24 +4,22 @@ use Rattle.std.specs.FinMap.{insert, remove}
 use Rattle.uring_entry.specs.declared.buffer.Loan.{Loan}
 use Rattle.uring_entry.specs.declared.events.Completion.{Completion}
 use Rattle.uring_entry.specs.Completions.{is_more, is_final}
+use Rattle.uring_entry.specs.Loans.{loan_buf}
 use Rattle.rent_engine.specs.declared.ops.Flight.{Flight}
 use Rattle.rent_engine.specs.declared.ops.EngineFault.{EngineFault}
 use Rattle.rent_engine.specs.declared.ops.EngineFault.TheVariants.{Stranger, Fault, NoMemory}
 use Rattle.rent_engine.specs.Ops as engine
 use Rattle.rent_engine.specs.Ops.{Ops, flight_at, done_at, knows, has_strange_loan, is_strange_for, completed, resolved, outcome, Pumps}
+use Rattle.uring_run.specs.declared.slot.Reply.{Reply}
 use Rattle.uring_run.specs.declared.slot.Slot.{Slot}
 use Rattle.uring_run.specs.declared.slot.Slot.TheVariants.{Open, Done}
-use Rattle.uring_run.specs.Told.{loan_buf, outcome_from}
-use Rattle.uring_run.specs.Slots.{is_stranger, land_one, land_all, stranger_among}
-use Rattle.uring_run.specs.Flights.{WasLent, flight_of, flight_in, outcome_polled, all_polled, AreOperated}
+use Rattle.uring_run.specs.Told.{lends, outcome_from}
+use Rattle.uring_run.specs.Slots.{is_stranger, land_in, land_one, land_all, stranger_among}
+use Rattle.uring_run.specs.Flights.{WasLent, flight_of, flight_in, all_polled, AreOperated}
 use Rattle.uring_run.proofs.FlightLemmas.{either_way, same_lists, set_here, set_else, at_insert, at_remove, itself, polled_at, at_all, apart, same_stranger}
 
-same_buf : (l : Option Loan) → engine.loan_buf l ≡ loan_buf l
-same_buf None = refl
-same_buf (Some l) = refl
-
 -- a last completion that is due brings a buffer back exactly where one was lent
-same_lent : (lent : Bool) (n : ℕ) (last : Bool) (loan : Option Loan) → last ≡ true → has_strange_loan lent n last loan ≡ false → lent ≡ is_some (engine.loan_buf loan)
+same_lent : (lent : Bool) (n : ℕ) (last : Bool) (loan : Option Loan) → last ≡ true → has_strange_loan lent n last loan ≡ false → lent ≡ is_some (loan_buf loan)
 same_lent true n last None l e = let bad : true ≡ false = sym l ∙ e in cc
 same_lent false n last None l e = refl
 same_lent true n last (Some loan) l e = refl
@@ -42,7 +40,7 @@ module _ (ops : Ops) (begun : ℕ) (slots : List Slot) (jobs : List ℕ) (a : Ar
     unchanged = λ i. cond (due i || more i) ops (resolved (flight_at ops c.user_data) c ops)
 
     not_landed : land_one (all_polled ops slots) c ≡ all_polled ops slots
-    not_landed = λ i. cond (not (more i)) (slice_set (all_polled ops slots) c.user_data (Done (outcome_from (record { result = c.result; loan = c.loan })))) (all_polled ops slots)
+    not_landed = λ i. cond (not (more i)) (land_in (slice_get (all_polled ops slots) c.user_data) (all_polled ops slots) c.user_data (record { result = c.result; loan = c.loan })) (all_polled ops slots)
 
     stays : AreOperated (completed ops c) begun slots jobs × (all_polled (completed ops c) slots ≡ land_one (all_polled ops slots) c)
     stays = (subst (λ o. AreOperated o begun slots jobs) (sym unchanged) a, ap (λ o. all_polled o slots) unchanged ∙ sym not_landed)
@@ -52,20 +50,21 @@ module _ (ops : Ops) (begun : ℕ) (slots : List Slot) (jobs : List ℕ) (a : Ar
     abbrev after : Ops
     after = record { in_flight = remove ops.in_flight c.user_data; done = insert ops.done c.user_data (outcome c) }
 
-    abbrev told : Slot
-    told = Done (outcome_from (record { result = c.result; loan = c.loan }))
-
     the_flight : (flight : Flight) × (flight_at ops c.user_data ≡ Some flight)
     the_flight = some_flight (flight_at ops c.user_data) c due
 
-    parts : (slice_get slots c.user_data ≡ Some (Open the_flight.0.lent)) × (slice_get (all_polled ops slots) c.user_data ≡ Some (Open the_flight.0.lent)) × (the_flight.0.forgotten ≡ false)
-    parts = let p = apart ops begun slots jobs a c.user_data the_flight.0 the_flight.1 in (p.1, p.3, p.4)
+    -- its job's slot, now and once all is polled
+    spot : (reply : Reply) × (slice_get slots c.user_data ≡ Some (Open reply)) × (slice_get (all_polled ops slots) c.user_data ≡ Some (Open reply)) × (lends reply ≡ the_flight.0.lent) × (the_flight.0.forgotten ≡ false)
+    spot = let p = apart ops begun slots jobs a c.user_data the_flight.0 the_flight.1 in (p.0, p.2, p.4, p.5, p.6)
+
+    abbrev told : Slot
+    told = Done (outcome_from spot.0 (record { result = c.result; loan = c.loan }))
 
     becomes : completed ops c ≡ after
     becomes =
         (λ i. cond (due i || last i) ops (resolved (flight_at ops c.user_data) c ops))
         ∙ ap (λ o. resolved o c ops) the_flight.1
-        ∙ ap (λ b. record { in_flight = remove ops.in_flight c.user_data; done = cond b ops.done (insert ops.done c.user_data (outcome c)) }) parts.2
+        ∙ ap (λ b. record { in_flight = remove ops.in_flight c.user_data; done = cond b ops.done (insert ops.done c.user_data (outcome c)) }) spot.4
 
     done_here : done_at after c.user_data ≡ Some (outcome c)
     done_here = at_insert ops.done c.user_data (outcome c) c.user_data ∙ ap (λ b. cond b (Some (outcome c)) (done_at ops c.user_data)) (itself c.user_data)
@@ -79,13 +78,10 @@ module _ (ops : Ops) (begun : ℕ) (slots : List Slot) (jobs : List ℕ) (a : Ar
     gone_else : (n : ℕ) → nat_eq c.user_data n ≡ false → flight_at after n ≡ flight_at ops n
     gone_else n e = at_remove ops.in_flight c.user_data n ∙ ap (λ b. cond b None (flight_at ops n)) e
 
-    same_told : Done (outcome_polled (outcome c)) ≡ told
-    same_told = λ i. Done (record { result = c.result; buf = same_buf c.loan i })
-
     landed_at : (k : ℕ) → polled_at (slice_get slots k) (done_at after k) ≡ slice_get (slice_set (all_polled ops slots) c.user_data told) k
     landed_at k = either_way c.user_data k _
         (λ e. subst (λ m. polled_at (slice_get slots m) (done_at after m) ≡ slice_get (slice_set (all_polled ops slots) c.user_data told) m) e
-        ((λ i. polled_at (parts.0 i) (done_here i)) ∙ ap (λ s. Some s) same_told ∙ sym (set_here (all_polled ops slots) c.user_data (Open the_flight.0.lent) told parts.1)))
+        ((λ i. polled_at (spot.1 i) (done_here i)) ∙ sym (set_here (all_polled ops slots) c.user_data (Open spot.0) told spot.2)))
         (λ e. (λ i. polled_at (slice_get slots k) (done_else k e i)) ∙ sym (at_all ops slots k) ∙ sym (set_else (all_polled ops slots) c.user_data k told e))
 
     lands : all_polled after slots ≡ slice_set (all_polled ops slots) c.user_data told
@@ -94,12 +90,12 @@ module _ (ops : Ops) (begun : ℕ) (slots : List Slot) (jobs : List ℕ) (a : Ar
     flight_after : (n : ℕ) → flight_at after n ≡ flight_in begun (slice_set (all_polled ops slots) c.user_data told) n
     flight_after n = either_way c.user_data n _
         (λ e. subst (λ m. flight_at after m ≡ flight_in begun (slice_set (all_polled ops slots) c.user_data told) m) e
-        (gone_here ∙ sym (no_flight (nat_lt c.user_data begun) (slice_get (slice_set (all_polled ops slots) c.user_data told) c.user_data) (ap flight_of (set_here (all_polled ops slots) c.user_data (Open the_flight.0.lent) told parts.1)))))
+        (gone_here ∙ sym (no_flight (nat_lt c.user_data begun) (slice_get (slice_set (all_polled ops slots) c.user_data told) c.user_data) (ap flight_of (set_here (all_polled ops slots) c.user_data (Open spot.0) told spot.2)))))
         (λ e. gone_else n e ∙ a.in_flight n ∙ ap (λ s. cond (nat_lt n begun) (flight_of s) None) (sym (set_else (all_polled ops slots) c.user_data n told e)))
 
     -- the buffer came back that was lent
     lent_back : WasLent slots c.user_data (outcome c)
-    lent_back = parts.0 ∙ ap (λ b. Some (Open b)) (same_lent the_flight.0.lent c.user_data (is_final c.flags) c.loan (ap not last) (ap (λ o. is_strange_for o c) (sym the_flight.1) ∙ due))
+    lent_back = record { reply = spot.0; slot = spot.1; lent = spot.3 ∙ same_lent the_flight.0.lent c.user_data (is_final c.flags) c.loan (ap not last) (ap (λ o. is_strange_for o c) (sym the_flight.1) ∙ due) }
 
     resolved_after : (n : ℕ) → IfSome (done_at after n) (WasLent slots n)
     resolved_after n = either_way c.user_data n _
@@ -117,7 +113,9 @@ module _ (ops : Ops) (begun : ℕ) (slots : List Slot) (jobs : List ℕ) (a : Ar
         (λ e. λ i. is_some (sym (gone_else n e) i) || is_some (sym (done_else n e) i))
 
     landed_last : land_one (all_polled ops slots) c ≡ slice_set (all_polled ops slots) c.user_data told
-    landed_last = λ i. cond (not (last i)) (slice_set (all_polled ops slots) c.user_data told) (all_polled ops slots)
+    landed_last =
+        (λ i. cond (not (last i)) (land_in (slice_get (all_polled ops slots) c.user_data) (all_polled ops slots) c.user_data (record { result = c.result; loan = c.loan })) (all_polled ops slots))
+        ∙ ap (λ slot. land_in slot (all_polled ops slots) c.user_data (record { result = c.result; loan = c.loan })) spot.2
 
     operated_after : AreOperated after begun slots jobs
     operated_after = record {

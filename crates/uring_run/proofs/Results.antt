@@ -1,13 +1,15 @@
 -- The outcomes of a run, as the log tells them and as the replay's table does.
-use Rattle.std.proofs.Common.{◌≡◌, ℕ, ◌+◌, ◌<◌, zero, suc, Bool, true, false, ◌&&◌, cond, nat_eq, List, [], ◌∷◌, ◌++◌, length, map, replicate, drop, IsSome, Option, Some, None, is_some, slice_get, slice_set, refl, ap, sym, subst, ◌∙◌, arith, append_assoc, append-nil}
+use Rattle.std.proofs.Common.{◌≡◌, ℕ, ◌+◌, ◌<◌, zero, suc, Bool, true, false, ◌&&◌, ◌||◌, not, cond, nat_eq, List, [], ◌∷◌, ◌++◌, length, map, replicate, drop, IsSome, Option, Some, None, ℤ, pos, negsuc, slice_get, slice_set, refl, ap, sym, subst, ◌∙◌, arith, append_assoc, append-nil}
 use Rattle.std.specs.List.{AllByRecursion}
+use Rattle.std.specs.FinMap.{get}
 use Rattle.std.specs.Option.{option_map}
 use Rattle.std.proofs.lemmas.Bool.Decides.{nat_tests}
 use Rattle.std.proofs.lemmas.Option.{same_Some}
 use Rattle.uring_entry.specs.declared.buffer.Loan.{Loan}
 use Rattle.uring_entry.specs.declared.events.Completion.{Completion}
+use Rattle.uring_entry.specs.declared.events.LogEvent.{LogEvent}
 use Rattle.uring_entry.specs.Completions.{is_final}
-use Rattle.uring_entry.specs.Loans.{part_of, with_part}
+use Rattle.uring_entry.specs.Loans.{part_of, with_part, loan_buf}
 use Rattle.uring_model.specs.declared.jobs.Job.{Job}
 use Rattle.uring_model.specs.declared.jobs.JobKind.{JobKind}
 use Rattle.uring_model.specs.declared.jobs.JobKind.TheVariants.{Nop, Read, Write, Fsync, Ftruncate, Cancel}
@@ -17,20 +19,22 @@ use Rattle.uring_model.specs.Jobs as model
 use Rattle.uring_model.specs.Replay.{Result}
 use Rattle.uring_model.specs.Moves.{Move, Turned, Took, Posted, posted, log_of}
 use Rattle.uring_model.specs.Chosen.{choice, stops}
-use Rattle.uring_model.specs.Partner.{PartnerState, Steps, after_take, after_settle, answer_to}
+use Rattle.uring_model.specs.Machine as machine
+use Rattle.uring_model.specs.Partner.{PartnerState, Cursor, job_of, other_in, completion_of, Steps, after_take, after_settle, answer_to}
 use Rattle.uring_model.specs.Explained.{record_all, AllFresh}
-use Rattle.uring_model.proofs.Honest.{EachPost, OfLoan}
 use Rattle.uring_run.specs.declared.entries.Offer.{Offer}
 use Rattle.uring_run.specs.declared.slot.Slot.{Slot}
 use Rattle.uring_run.specs.declared.slot.Slot.TheVariants.{Done}
-use Rattle.uring_run.specs.Entries.{loan_of, offers_from, all_taken}
-use Rattle.uring_run.specs.Told.{Ending, loan_buf, outcome_from}
+use Rattle.uring_run.specs.Entries.{offers_from}
+use Rattle.uring_run.specs.declared.slot.Reply.{Reply}
+use Rattle.uring_run.specs.declared.slot.Reply.TheVariants.{Plain, Buffer, Success}
+use Rattle.uring_run.specs.Told.{Ending, first_final, reply_for, lends, heard, outcome_from}
 use Rattle.uring_run.specs.Slots.{count_open, final_of, told_slot, slots_from}
-use Rattle.uring_run.specs.Memory.{outcomes_told}
+use Rattle.uring_run.specs.Memory.{outcome_told, outcomes_told}
 use Rattle.uring_run.specs.Runs.{outcomes_from}
 use Rattle.uring_run.proofs.Posts.{final_not, final_last, same_final}
 use Rattle.uring_run.proofs.Prompt.{AllFinal}
-use Rattle.uring_run.proofs.Asks.{Lends, lends_next, lends_here}
+use Rattle.uring_run.proofs.Asks.{Replies, replies_next, replies_here, is_lent, is_sync, is_asked, asks}
 
 abbrev pub told : Ending → Result
 told e = record { result = e.result; buf = part_of e.loan }
@@ -92,105 +96,159 @@ steps_final over a b (Took t ∷ ms) h = steps_final false (after_take a t) b ms
 steps_final over a b (Posted c ∷ ms) h = (ap (λ x. is_final x.flags) h.1.completion, steps_final (stops (choice a.choices)) (after_settle a h.1.cursor (answer_to a.files h.1.cursor)) b ms h.2)
 
 -- no open slot: each outcome is set
-set_one : (lends : Bool) (o : Option Ending) (slots : List Slot) → count_open (told_slot lends o ∷ slots) ≡ 0 → IsSome (option_map told o) × (count_open slots ≡ 0)
-set_one lends None slots h = absurd (omega arith)
-set_one lends (Some e) slots h = (refl, h)
+set_one : (reply : Reply) (o : Option Ending) (slots : List Slot) → count_open (told_slot reply o ∷ slots) ≡ 0 → IsSome (option_map told o) × (count_open slots ≡ 0)
+set_one reply None slots h = absurd (omega arith)
+set_one reply (Some e) slots h = (refl, h)
 
 pub all_set : (n : ℕ) (offers : List Offer) (cs : List Completion) → count_open (slots_from n offers cs) ≡ 0 → AllByRecursion IsSome (results_from n offers cs)
 all_set n [] cs h = tt
 all_set n (offer ∷ offers) cs h =
-    let p = set_one (is_some offer.loan) (final_of n cs) (slots_from (n + 1) offers cs) h in
+    let p = set_one offer.reply (final_of n cs) (slots_from (n + 1) offers cs) h in
     (p.0, all_set (n + 1) offers cs p.1)
 
 -- the outcomes that the slots hold are those that the log tells
 
-done_head : (o : Outcome) (lends : Bool) (e : Option Ending) (xs ys : List Slot) → Done o ∷ xs ≡ told_slot lends e ∷ ys → Some o ≡ option_map outcome_from e
-done_head o lends None xs ys h = cc
-done_head o lends (Some e) xs ys h = let s : Done o ≡ Done (outcome_from e) = cc in let t : o ≡ outcome_from e = cc in ap Some t
+done_head : (o : Outcome) (reply : Reply) (e : Option Ending) (xs ys : List Slot) → Done o ∷ xs ≡ told_slot reply e ∷ ys → Some o ≡ option_map (outcome_from reply) e
+done_head o reply None xs ys h = cc
+done_head o reply (Some e) xs ys h = let s : Done o ≡ Done (outcome_from reply e) = cc in let t : o ≡ outcome_from reply e = cc in ap Some t
 
 cons_tail : {A : Type 0} (x y : A) (xs ys : List A) → x ∷ xs ≡ y ∷ ys → xs ≡ ys
 cons_tail x y xs ys e = cc
 
-pub outcomes_of_slots : (n : ℕ) (offers : List Offer) (ms : List Move) (os : List Outcome) → map (λ o. Done o) os ≡ slots_from n offers (posted ms) → map (λ o. Some o) os ≡ outcomes_from n (length offers) (log_of ms)
-outcomes_of_slots n [] ms [] h = refl
-outcomes_of_slots n [] ms (o ∷ os) h = cc
-outcomes_of_slots n (offer ∷ offers) ms [] h = cc
-outcomes_of_slots n (offer ∷ offers) ms (o ∷ os) h =
-    let here = done_head o (is_some offer.loan) (final_of n (posted ms)) (map (λ o. Done o) os) (slots_from (n + 1) offers (posted ms)) h ∙ ap (option_map outcome_from) (sym (same_final n ms)) in
-    let rest = outcomes_of_slots (n + 1) offers ms os (cons_tail (Done o) (told_slot (is_some offer.loan) (final_of n (posted ms))) (map (λ o. Done o) os) (slots_from (n + 1) offers (posted ms)) h) in
+-- the outcomes of the offers, by the log
+abbrev outcomes_in : ℕ → List Offer → List LogEvent → List (Option Outcome)
+outcomes_in n [] log = []
+outcomes_in n (offer ∷ offers) log = option_map (outcome_from offer.reply) (first_final n log) ∷ outcomes_in (n + 1) offers log
+
+outcomes_of_offers : (n : ℕ) (offers : List Offer) (ms : List Move) (os : List Outcome) → map (λ o. Done o) os ≡ slots_from n offers (posted ms) → map (λ o. Some o) os ≡ outcomes_in n offers (log_of ms)
+outcomes_of_offers n [] ms [] h = refl
+outcomes_of_offers n [] ms (o ∷ os) h = cc
+outcomes_of_offers n (offer ∷ offers) ms [] h = cc
+outcomes_of_offers n (offer ∷ offers) ms (o ∷ os) h =
+    let here = done_head o offer.reply (final_of n (posted ms)) (map (λ o. Done o) os) (slots_from (n + 1) offers (posted ms)) h ∙ ap (option_map (outcome_from offer.reply)) (sym (same_final n ms)) in
+    let rest = outcomes_of_offers (n + 1) offers ms os (cons_tail (Done o) (told_slot offer.reply (final_of n (posted ms))) (map (λ o. Done o) os) (slots_from (n + 1) offers (posted ms)) h) in
     λ i. here i ∷ rest i
 
--- loans that were lent from their first byte come back whole
+outcomes_of_jobs : (n : ℕ) (jobs : List Job) (log : List LogEvent) → outcomes_in n (offers_from n jobs) log ≡ outcomes_from n jobs log
+outcomes_of_jobs n [] log = refl
+outcomes_of_jobs n (job ∷ []) log = refl
+outcomes_of_jobs n (job ∷ next ∷ jobs) log = ap (λ os. option_map (outcome_from (reply_for job.kind)) (first_final n log) ∷ os) (outcomes_of_jobs (n + 1) (next ∷ jobs) log)
 
-abbrev pub IsLent : (ℕ → Bool) → ℕ → Option Loan → Type 0
-IsLent lends j None = lends j ≡ false
-IsLent lends j (Some l) = (lends j ≡ true) × (l.from ≡ 0)
+pub outcomes_of_slots : (jobs : List Job) (ms : List Move) (os : List Outcome) → map (λ o. Done o) os ≡ slots_from 0 (offers_from 0 jobs) (posted ms) → map (λ o. Some o) os ≡ outcomes_from 0 jobs (log_of ms)
+outcomes_of_slots jobs ms os h = outcomes_of_offers 0 (offers_from 0 jobs) ms os h ∙ outcomes_of_jobs 0 jobs (log_of ms)
 
-pub lent_still : (lends : ℕ → Bool) (j : ℕ) (l : Option Loan) (bytes : List ℕ) → IsLent lends j l → IsLent lends j (with_part l bytes)
-lent_still lends j None bytes h = h
-lent_still lends j (Some l) bytes h = h
+-- Loans that were lent from their first byte come back whole, and a sync's result is 0 or an errno: so the replay's table
+-- and the log tell the same outcomes.
+
+abbrev is_heard : Reply → ℤ → Bool
+is_heard Plain result = true
+is_heard Buffer result = true
+is_heard Success (pos n) = nat_eq n 0
+is_heard Success (negsuc n) = true
+
+abbrev is_told : Reply → Ending → Bool
+is_told reply e = is_lent reply e.loan && is_heard reply e.result
+
+abbrev pub answers : (ℕ → Reply) → Completion → Bool
+answers replies c = is_told (replies c.user_data) (record { result = c.result; loan = c.loan })
+
+lent_still : (reply : Reply) (l : Option Loan) (bytes : List ℕ) → is_lent reply (with_part l bytes) ≡ is_lent reply l
+lent_still reply None bytes = refl
+lent_still reply (Some l) bytes = refl
+
+sync_heard : (files : machine.Files) (buf : List ℕ) (o : Option (List ℕ)) → is_heard Success (machine.sync_answer files buf o).result ≡ true
+sync_heard files buf None = refl
+sync_heard files buf (Some file) = refl
+
+step_heard : (op : machine.Op) (files : machine.Files) (other : ℕ → Bool) (buf : List ℕ) → is_sync op ≡ true → is_heard Success (machine.step files other op buf).result ≡ true
+unfolding machine.step
+step_heard machine.Nop files other buf e = cc
+step_heard (machine.Read file offset) files other buf e = cc
+step_heard (machine.Write file offset) files other buf e = cc
+step_heard (machine.Fsync file) files other buf e = sync_heard files buf (get files file)
+step_heard (machine.Ftruncate file len) files other buf e = cc
+step_heard (machine.Cancel job) files other buf e = cc
+step_heard (machine.Refused code) files other buf e = cc
+
+answer_heard : (reply : Reply) (cut : Bool) (op : machine.Op) (files : machine.Files) (other : ℕ → Bool) (buf : List ℕ) → is_asked reply op ≡ true → is_heard reply (cond cut (machine.canceled files buf) (machine.step files other op buf)).result ≡ true
+answer_heard Plain cut op files other buf e = refl
+answer_heard Buffer cut op files other buf e = refl
+answer_heard Success true op files other buf e = refl
+answer_heard Success false op files other buf e = step_heard op files other buf e
+
+and_both : (b c : Bool) → (b && c) ≡ true → (b ≡ true) × (c ≡ true)
+and_both true c e = (refl, e)
+and_both false c e = cc
+
+both_true : (b c : Bool) → b ≡ true → c ≡ true → (b && c) ≡ true
+both_true b c e f = rw (e, f) refl
+
+-- what a partner whose files are told answers to such an entry
+pub answered : (replies : ℕ → Reply) (now : machine.Files) (c : Cursor) → asks replies c.item.taken ≡ true → answers replies (completion_of c.item.taken (answer_to now c)) ≡ true
+answered replies now c h =
+    let reply = replies c.item.taken.entry.user_data in
+    let p = and_both (is_lent reply c.item.taken.loan) (is_asked reply (job_of c.item.taken).op) h in
+    both_true _ _
+    (lent_still reply c.item.taken.loan (answer_to now c).buf ∙ p.0)
+    (answer_heard reply (c.item.marked || c.item.cut) (job_of c.item.taken).op now (other_in c) (job_of c.item.taken).buf p.1)
+
+same_number : (m n : ℕ) → nat_eq m n ≡ true → m ≡ n
+same_number m n e = grind (arith, nat_tests)
+
+heard_same : (reply : Reply) (r : ℤ) → is_heard reply r ≡ true → heard reply r ≡ r
+heard_same Plain r e = refl
+heard_same Buffer r e = refl
+heard_same Success (pos n) e = ap pos (sym (same_number n 0 e))
+heard_same Success (negsuc n) e = refl
 
 whole_part : (n : ℕ) (buf : List ℕ) → n ≡ 0 → drop n buf ≡ buf
 whole_part n buf e = ap (λ k. drop k buf) e
 
-lent_whole : (lends : ℕ → Bool) (j : ℕ) (l : Option Loan) → IsLent lends j l → loan_buf l ≡ cond (lends j) (Some (part_of l)) None
-lent_whole lends j None h = rw h refl
-lent_whole lends j (Some l) h = rw h.0 (ap Some (sym (whole_part l.from l.buf h.1)))
+lent_none : (b : Bool) → not b ≡ true → ◌≡◌ {A = Option (List ℕ)} None (cond b (Some []) None)
+lent_none true e = cc
+lent_none false e = refl
 
-lent_kind : (lends : ℕ → Bool) (j : ℕ) (kind : JobKind) → lends j ≡ is_some (loan_of j kind) → IsLent lends j (loan_of j kind)
-lent_kind lends j Nop e = e
-lent_kind lends j (Read file offset buf) e = (e, refl)
-lent_kind lends j (Write file offset buf) e = (e, refl)
-lent_kind lends j (Fsync file) e = e
-lent_kind lends j (Ftruncate file len) e = e
-lent_kind lends j (Cancel target) e = e
+lent_whole : (reply : Reply) (l : Option Loan) → is_lent reply l ≡ true → loan_buf l ≡ cond (lends reply) (Some (part_of l)) None
+lent_whole reply None h = lent_none (lends reply) h
+lent_whole reply (Some l) h = let p = and_both (lends reply) (nat_eq l.from 0) h in rw p.0 (ap Some (sym (whole_part l.from l.buf (same_number l.from 0 p.1))))
 
-pub lent_all : (lends : ℕ → Bool) (n : ℕ) (jobs : List Job) → Lends lends n jobs → AllByRecursion (OfLoan (IsLent lends)) (all_taken (offers_from n jobs))
-lent_all lends n [] f = tt
-lent_all lends n (job ∷ []) f = (lent_kind lends n job.kind (lends_here lends n _ (f 0)), tt)
-lent_all lends n (job ∷ next ∷ jobs) f = (lent_kind lends n job.kind (lends_here lends n _ (f 0)), lent_all lends (n + 1) (next ∷ jobs) (lends_next lends n job next jobs f))
+lends_moved : (kind : JobKind) → lends (reply_for kind) ≡ moves_bytes (op_asked kind)
+lends_moved Nop = refl
+lends_moved (Read file offset buf) = refl
+lends_moved (Write file offset buf) = refl
+lends_moved (Fsync file) = refl
+lends_moved (Ftruncate file len) = refl
+lends_moved (Cancel job) = refl
 
-same_job : (m n : ℕ) → nat_eq m n ≡ true → m ≡ n
-same_job m n e = grind (arith, nat_tests)
+-- one job's outcome, by the log and by the table
+same_outcome : (job : Job) (reply : Reply) (e : Ending) → reply ≡ reply_for job.kind → is_told reply e ≡ true → outcome_from (reply_for job.kind) e ≡ outcome_told (asked job) (told e)
+same_outcome job reply e f h =
+    let p = and_both (is_lent reply e.loan) (is_heard reply e.result) h in
+    let result : heard (reply_for job.kind) e.result ≡ e.result = heard_same (reply_for job.kind) e.result (ap (λ r. is_heard r e.result) (sym f) ∙ p.1) in
+    let buf : loan_buf e.loan ≡ cond (moves_bytes (op_asked job.kind)) (Some (part_of e.loan)) None = lent_whole (reply_for job.kind) e.loan (ap (λ r. is_lent r e.loan) (sym f) ∙ p.0) ∙ ap (λ b. cond b (Some (part_of e.loan)) None) (lends_moved job.kind) in
+    λ i. record { result = result i; buf = buf i }
 
-and_right : (b c : Bool) → (b && c) ≡ true → c ≡ true
-and_right true c e = e
-and_right false c e = cc
+told_if : (b : Bool) (replies : ℕ → Reply) (n u : ℕ) (x e : Ending) (o : Option Ending) → (b ≡ true → u ≡ n) → is_told (replies u) x ≡ true → (o ≡ Some e → is_told (replies n) e ≡ true) → cond b (Some x) o ≡ Some e → is_told (replies n) e ≡ true
+told_if true replies n u x e o f h g q = subst (λ y. is_told (replies n) y ≡ true) (same_Some x e q) (subst (λ j. is_told (replies j) x ≡ true) (f refl) h)
+told_if false replies n u x e o f h g q = g q
 
-final_lent_if : (b : Bool) (lends : ℕ → Bool) (n u : ℕ) (x e : Ending) (o : Option Ending) → (b ≡ true → u ≡ n) → IsLent lends u x.loan → (o ≡ Some e → IsLent lends n e.loan) → cond b (Some x) o ≡ Some e → IsLent lends n e.loan
-final_lent_if true lends n u x e o f h g q = subst (λ y. IsLent lends n y.loan) (same_Some x e q) (subst (λ j. IsLent lends j x.loan) (f refl) h)
-final_lent_if false lends n u x e o f h g q = g q
+final_told : (replies : ℕ → Reply) (n : ℕ) (cs : List Completion) (e : Ending) → AllByRecursion (λ c. answers replies c ≡ true) cs → final_of n cs ≡ Some e → is_told (replies n) e ≡ true
+final_told replies n [] e h q = cc
+final_told replies n (c ∷ cs) e h q =
+    told_if (is_final c.flags && nat_eq c.user_data n) replies n c.user_data (record { result = c.result; loan = c.loan }) e (final_of n cs)
+    (λ b. same_number c.user_data n (and_both (is_final c.flags) (nat_eq c.user_data n) b).1) h.0 (λ r. final_told replies n cs e h.1 r) q
 
-pub final_lent : (lends : ℕ → Bool) (n : ℕ) (cs : List Completion) (e : Ending) → EachPost (λ c. IsLent lends c.user_data c.loan) cs → final_of n cs ≡ Some e → IsLent lends n e.loan
-final_lent lends n [] e h q = cc
-final_lent lends n (c ∷ cs) e h q =
-    final_lent_if (is_final c.flags && nat_eq c.user_data n) lends n c.user_data (record { result = c.result; loan = c.loan }) e (final_of n cs)
-    (λ b. same_job c.user_data n (and_right (is_final c.flags) (nat_eq c.user_data n) b)) h.0 (λ r. final_lent lends n cs e h.1 r) q
-
-loan_moves : (n : ℕ) (kind : JobKind) → is_some (loan_of n kind) ≡ moves_bytes (op_asked kind)
-loan_moves n Nop = refl
-loan_moves n (Read file offset buf) = refl
-loan_moves n (Write file offset buf) = refl
-loan_moves n (Fsync file) = refl
-loan_moves n (Ftruncate file len) = refl
-loan_moves n (Cancel job) = refl
-
--- one job's outcome, by the table and by the log
-told_one : (job : Job) (o : Option Ending) (rest : List model.Job) (t : List (Option Result)) → ((e : Ending) → o ≡ Some e → loan_buf e.loan ≡ cond (moves_bytes (op_asked job.kind)) (Some (part_of e.loan)) None)
-    → outcomes_told (asked job ∷ rest) (option_map told o ∷ t) ≡ option_map outcome_from o ∷ outcomes_told rest t
+told_one : (job : Job) (o : Option Ending) (rest : List model.Job) (t : List (Option Result)) → ((e : Ending) → o ≡ Some e → outcome_from (reply_for job.kind) e ≡ outcome_told (asked job) (told e))
+    → outcomes_told (asked job ∷ rest) (option_map told o ∷ t) ≡ option_map (outcome_from (reply_for job.kind)) o ∷ outcomes_told rest t
 told_one job None rest t f = refl
-told_one job (Some e) rest t f = λ i. Some (record { result = e.result; buf = sym (f e refl) i }) ∷ outcomes_told rest t
+told_one job (Some e) rest t f = λ i. Some (sym (f e refl) i) ∷ outcomes_told rest t
 
-one_buf : (lends : ℕ → Bool) (n : ℕ) (job : Job) (cs : List Completion) (b : Bool) → EachPost (λ c. IsLent lends c.user_data c.loan) cs → lends (n + 0) ≡ is_some (loan_of n job.kind)
-    → (e : Ending) → final_of n cs ≡ Some e → loan_buf e.loan ≡ cond (moves_bytes (op_asked job.kind)) (Some (part_of e.loan)) None
-one_buf lends n job cs b h f e q =
-    lent_whole lends n e.loan (final_lent lends n cs e h q) ∙ ap (λ x. cond x (Some (part_of e.loan)) None) (lends_here lends n _ f ∙ loan_moves n job.kind)
-
-pub told_outcomes : (lends : ℕ → Bool) (n : ℕ) (jobs : List Job) (ms : List Move) → Lends lends n jobs → EachPost (λ c. IsLent lends c.user_data c.loan) (posted ms)
-    → outcomes_told (all_asked jobs) (results_from n (offers_from n jobs) (posted ms)) ≡ outcomes_from n (length jobs) (log_of ms)
-told_outcomes lends n [] ms f h = refl
-told_outcomes lends n (job ∷ []) ms f h =
-    told_one job (final_of n (posted ms)) [] [] (one_buf lends n job (posted ms) true h (f 0)) ∙ ap (λ o. option_map outcome_from o ∷ []) (sym (same_final n ms))
-told_outcomes lends n (job ∷ next ∷ jobs) ms f h =
-    told_one job (final_of n (posted ms)) (all_asked (next ∷ jobs)) (results_from (n + 1) (offers_from (n + 1) (next ∷ jobs)) (posted ms)) (one_buf lends n job (posted ms) true h (f 0))
-    ∙ (λ i. option_map outcome_from (sym (same_final n ms) i) ∷ told_outcomes lends (n + 1) (next ∷ jobs) ms (lends_next lends n job next jobs f) h i)
+pub told_outcomes : (replies : ℕ → Reply) (n : ℕ) (jobs : List Job) (ms : List Move) → Replies replies n jobs → AllByRecursion (λ c. answers replies c ≡ true) (posted ms)
+    → outcomes_told (all_asked jobs) (results_from n (offers_from n jobs) (posted ms)) ≡ outcomes_from n jobs (log_of ms)
+told_outcomes replies n [] ms f h = refl
+told_outcomes replies n (job ∷ []) ms f h =
+    told_one job (final_of n (posted ms)) [] [] (λ e q. same_outcome job (replies n) e (replies_here replies n _ (f 0)) (final_told replies n (posted ms) e h q))
+    ∙ ap (λ o. option_map (outcome_from (reply_for job.kind)) o ∷ []) (sym (same_final n ms))
+told_outcomes replies n (job ∷ next ∷ jobs) ms f h =
+    told_one job (final_of n (posted ms)) (all_asked (next ∷ jobs)) (results_from (n + 1) (offers_from (n + 1) (next ∷ jobs)) (posted ms)) (λ e q. same_outcome job (replies n) e (replies_here replies n _ (f 0)) (final_told replies n (posted ms) e h q))
+    ∙ (λ i. option_map (outcome_from (reply_for job.kind)) (sym (same_final n ms) i) ∷ told_outcomes replies (n + 1) (next ∷ jobs) ms (replies_next replies n job next jobs f) h i)

@@ -14,9 +14,6 @@ use Rattle.uring_model.specs.Progress.{turns}
 use Rattle.uring_model.specs.Turn.{turn, take_all}
 use Rattle.uring_model.specs.Honest.{TakesWithinTurns}
 use Rattle.uring_model.specs.Strange.{nothing_seen, first_strange}
-use Rattle.uring_model.proofs.Joins.{took-append, posted-append, IsLogged-append, IsLogged-none, IsServed-append, IsServed-none, posted_turn}
-use Rattle.uring_model.proofs.Whole.{turns-append}
-use Rattle.uring_model.proofs.Honest.{within-append}
 use Rattle.uring_ring.specs.Lists.{Lists, IsKept, HasRoom, all_published, free_of, room_of, small}
 use Rattle.uring_run.proofs.Prompt.{served_some, AllFinal, turn_final, final_any, each_lands, turn_pays}
 use Rattle.std.specs.Bool.{OnTrue}
@@ -24,6 +21,7 @@ use Rattle.uring_partner.specs.Calls.{IsCall, IsTurn, IsTurnOf, IsWholeTurn}
 use Rattle.uring_run.specs.declared.entries.Offer.{Offer}
 use Rattle.uring_run.specs.declared.slot.Slot.{Slot}
 use Rattle.uring_run.specs.Entries.{all_taken, lends_in}
+use Rattle.uring_run.specs.Laws.{ModelLaws}
 use Rattle.uring_run.specs.Told.{quiet_turns}
 use Rattle.uring_run.specs.Slots.{final_of, slots_from, count_open, land_all, stranger_among, any_final}
 use Rattle.uring_run.specs.Rounds.{pushed_more, IsCalm, Round}
@@ -190,6 +188,7 @@ call_turns c n k started ms h = elim h [
 
 -- a run and one more round
 pub record Next {P R : Type 0} (log : P → Option (List LogEvent)) (state : P → Option PartnerState) (lists : R → Option Lists) (kept : Completion → Completion) (first now new : P) (from to : R) (room : ℕ) (todo todo' : List Taken) (started started' : ℕ) (slots slots' : List Slot) (offers : List Offer) (capacity idle quiet : ℕ) (answer : Result Bool RunFault) : Type 0 where
+  pub laws : ModelLaws
   pub run : Running log state lists first now from room todo started slots offers capacity idle quiet
   pub round : Round log state lists kept now new from to todo todo' started' slots slots' answer
   pub keeps : (c : Completion) → IsKept c (kept c)
@@ -209,7 +208,7 @@ at_published log state lists kept first now new from to room todo todo' started 
 
 next_entries : {P R : Type 0} (log : P → Option (List LogEvent)) (state : P → Option PartnerState) (lists : R → Option Lists) (kept : Completion → Completion) (first now new : P) (from to : R) (room : ℕ) (todo todo' : List Taken) (started started' : ℕ) (slots slots' : List Slot) (offers : List Offer) (capacity idle quiet : ℕ) (answer : Result Bool RunFault) (x : Next log state lists kept first now new from to room todo todo' started started' slots slots' offers capacity idle quiet answer) → took (x.run.ms ++ x.round.ms) ++ (x.round.after.published ++ todo') ≡ all_taken offers
 next_entries log state lists kept first now new from to room todo todo' started started' slots slots' offers capacity idle quiet answer x =
-    ap (λ l. l ++ (x.round.after.published ++ todo')) (took-append x.run.ms x.round.ms)
+    ap (λ l. l ++ (x.round.after.published ++ todo')) (x.laws.join.takes x.run.ms x.round.ms)
     ∙ append_assoc (took x.run.ms) (took x.round.ms) (x.round.after.published ++ todo')
     ∙ ap (λ l. took x.run.ms ++ l)
     (sym (append_assoc (took x.round.ms) x.round.after.published todo')
@@ -238,7 +237,7 @@ next_busy log state lists kept first now new from to room todo todo' started sta
 
 next_within : {P R : Type 0} (log : P → Option (List LogEvent)) (state : P → Option PartnerState) (lists : R → Option Lists) (kept : Completion → Completion) (first now new : P) (from to : R) (room : ℕ) (todo todo' : List Taken) (started started' : ℕ) (slots slots' : List Slot) (offers : List Offer) (capacity idle quiet : ℕ) (answer : Result Bool RunFault) (x : Next log state lists kept first now new from to room todo todo' started started' slots slots' offers capacity idle quiet answer) → TakesWithinTurns 0 (x.run.ms ++ x.round.ms)
 next_within log state lists kept first now new from to room todo todo' started started' slots slots' offers capacity idle quiet answer x =
-    within-append 0 x.run.ms x.round.ms x.run.within (call_within x.run.l.capacity (length offers) (length (took x.run.ms)) started' x.round.ms (next_called log state lists kept first now new from to room todo todo' started started' slots slots' offers capacity idle quiet answer x))
+    x.laws.join.within 0 x.run.ms x.round.ms x.run.within (call_within x.run.l.capacity (length offers) (length (took x.run.ms)) started' x.round.ms (next_called log state lists kept first now new from to room todo todo' started started' slots slots' offers capacity idle quiet answer x))
 
 next_inside : {P R : Type 0} (log : P → Option (List LogEvent)) (state : P → Option PartnerState) (lists : R → Option Lists) (kept : Completion → Completion) (first now new : P) (from to : R) (room : ℕ) (todo todo' : List Taken) (started started' : ℕ) (slots slots' : List Slot) (offers : List Offer) (capacity idle quiet : ℕ) (answer : Result Bool RunFault) (x : Next log state lists kept first now new from to room todo todo' started started' slots slots' offers capacity idle quiet answer) → started' ≤ length offers
 next_inside log state lists kept first now new from to room todo todo' started started' slots slots' offers capacity idle quiet answer x =
@@ -257,12 +256,12 @@ next_ran log state lists kept first now new from to room todo todo' started star
     record {
       moves = x.run.ms ++ x.round.ms;
       ahead = x.round.after.published ++ todo';
-      logs = IsLogged-append (log first) (log now) (log new) x.run.ms x.round.ms x.run.logs x.round.logs;
-      states = IsServed-append (state first) (state now) (state new) x.run.ms x.round.ms x.run.states x.round.states;
+      logs = x.laws.join.logs (log first) (log now) (log new) x.run.ms x.round.ms x.run.logs x.round.logs;
+      states = x.laws.join.states (state first) (state now) (state new) x.run.ms x.round.ms x.run.states x.round.states;
       entries = next_entries log state lists kept first now new from to room todo todo' started started' slots slots' offers capacity idle quiet answer x;
       busy = next_busy log state lists kept first now new from to room todo todo' started started' slots slots' offers capacity idle quiet answer x;
       within = next_within log state lists kept first now new from to room todo todo' started started' slots slots' offers capacity idle quiet answer x;
-      few = let t = call_turns x.run.l.capacity (length offers) (length (took x.run.ms)) started' x.round.ms (next_called log state lists kept first now new from to room todo todo' started started' slots slots' offers capacity idle quiet answer x) in subst (λ k. k ≤ idle * length offers) (sym (turns-append x.run.ms x.round.ms)) (few_last idle (length offers) (turns x.run.ms) (count_open slots) quiet (turns x.round.ms) x.run.few x.unfinished x.waits t);
+      few = let t = call_turns x.run.l.capacity (length offers) (length (took x.run.ms)) started' x.round.ms (next_called log state lists kept first now new from to room todo todo' started started' slots slots' offers capacity idle quiet answer x) in subst (λ k. k ≤ idle * length offers) (sym (x.laws.join.turning x.run.ms x.round.ms)) (few_last idle (length offers) (turns x.run.ms) (count_open slots) quiet (turns x.round.ms) x.run.few x.unfinished x.waits t);
     }
 
 -- a round that ends well
@@ -306,7 +305,7 @@ next_turns : {P R : Type 0} (log : P → Option (List LogEvent)) (state : P → 
 next_turns log state lists kept first now new from to room todo todo' started started' slots slots' offers capacity idle quiet fin x =
     let c = next_entered log state lists kept first now new from to room todo todo' started started' slots slots' offers capacity idle quiet (Ok fin) x x.round.ends.0 in
     let one : turns x.round.ms ≡ suc (turns c.rest) = ap turns c.moves in
-    turns-append x.run.ms x.round.ms ∙ omega (arith, one, c.one)
+    x.laws.join.turning x.run.ms x.round.ms ∙ omega (arith, one, c.one)
 
 on_true : (b : Bool) (T : Type 0) → b ≡ true → OnTrue b T → T
 on_true true T e h = h
@@ -321,17 +320,17 @@ next_prompt log state lists kept first now new from to room todo todo' started s
     let b = served_some a x.run.ms (state now) (subst (λ o. IsServed o x.run.ms (state now)) told x.run.states) in
     let w : IsTurnOf b.0 x.round.at x.round.ms = subst (λ o. IsWholeTurn o (Some x.round.at) x.round.ms) b.1 (on_true x.round.entered (IsWholeTurn (state now) (Some x.round.at) x.round.ms) x.round.ends.0 x.round.whole) in
     let cs = (turn w.ts (room_of x.round.at) b.0).posts in
-    let posts : posted x.round.ms ≡ cs = ap posted w.moves ∙ posted_turn w.ts cs in
+    let posts : posted x.round.ms ≡ cs = ap posted w.moves ∙ x.laws.turn_posts w.ts cs in
     let at_room : room_of x.round.at ≡ x.run.l.completion_capacity - (length x.run.l.completions + 0) = ap room_of x.round.published ∙ ap (λ l. l.completion_capacity - (length l.completions + 0)) (same_lists log state lists kept first now new from to room todo todo' started started' slots slots' offers capacity idle quiet (Ok fin) x) in
     let none : length x.run.l.completions ≡ 0 = ap length x.run.calm.completions in
     let holds = x.run.holds in
     let room_is : 0 < room_of x.round.at = omega (arith, at_room, none, holds.1) in
-    let pays = turn_pays a b.0 x.run.ms x.round.ms c.rest x.round.at (length offers) c.p x.run.l.capacity (count_open slots) is_idle b.2 w c.moves c.full holds.0 room_is q.1 x.unfinished in
+    let pays = turn_pays x.laws a b.0 x.run.ms x.round.ms c.rest x.round.at (length offers) c.p x.run.l.capacity (count_open slots) is_idle b.2 w c.moves c.full holds.0 room_is q.1 x.unfinished in
     let final : AllFinal (posted x.round.ms) = subst AllFinal (sym posts) (turn_final (room_of x.round.at) (take_all b.0 w.ts)) in
     let yes : fin ≡ true = next_fin log state lists kept first now new from to room todo todo' started started' slots slots' offers capacity idle quiet fin x ∙ final_any (posted x.round.ms) final (subst (λ l. 0 < length l) (sym posts) pays) in
     let due : stranger_among started' slots (posted x.round.ms) ≡ None = sym (stranger_kept kept x.keeps started' slots (posted x.round.ms)) ∙ x.round.ends.1 in
     let landed : count_open slots' + length (posted x.round.ms) ≡ count_open slots = ap (λ y. count_open y + length (posted x.round.ms)) (next_slots log state lists kept first now new from to room todo todo' started started' slots slots' offers capacity idle quiet fin x) ∙ each_lands started' slots (posted x.round.ms) final due in
-    let all : length (posted (x.run.ms ++ x.round.ms)) ≡ length (posted x.run.ms) + length (posted x.round.ms) = ap length (posted-append x.run.ms x.round.ms) ∙ length-append (posted x.run.ms) (posted x.round.ms) in
+    let all : length (posted (x.run.ms ++ x.round.ms)) ≡ length (posted x.run.ms) + length (posted x.round.ms) = ap length (x.laws.join.posts x.run.ms x.round.ms) ∙ length-append (posted x.run.ms) (posted x.round.ms) in
     (e ∙ ap (λ b. cond b 0 (quiet + 1)) yes, omega (arith, landed, all, q.1), omega (arith, q.2, next_turns log state lists kept first now new from to room todo todo' started started' slots slots' offers capacity idle quiet fin x, all, ap length posts, pays))
 
 pub running_next : {P R : Type 0} (log : P → Option (List LogEvent)) (state : P → Option PartnerState) (lists : R → Option Lists) (kept : Completion → Completion) (first now new : P) (from to : R) (room : ℕ) (todo todo' : List Taken) (started started' : ℕ) (slots slots' : List Slot) (offers : List Offer) (capacity idle quiet : ℕ) (fin : Bool) (room' quiet' : ℕ) → (x : Next log state lists kept first now new from to room todo todo' started started' slots slots' offers capacity idle quiet (Ok fin)) → (l : Lists) × (lists to ≡ Some l) × IsCalm l room' → quiet' ≡ cond fin 0 (quiet + 1)
@@ -343,8 +342,8 @@ running_next log state lists kept first now new from to room todo todo' started 
     let before = counts offers x.run.ms x.run.l.published todo x.run.entries in
     record {
       ms = ms;
-      logs = IsLogged-append (log first) (log now) (log new) x.run.ms x.round.ms x.run.logs x.round.logs;
-      states = IsServed-append (state first) (state now) (state new) x.run.ms x.round.ms x.run.states x.round.states;
+      logs = x.laws.join.logs (log first) (log now) (log new) x.run.ms x.round.ms x.run.logs x.round.logs;
+      states = x.laws.join.states (state first) (state now) (state new) x.run.ms x.round.ms x.run.states x.round.states;
       l = x.round.after;
       told = x.round.told_after;
       calm = subst (λ y. IsCalm y room') (told_same (lists to) calm.0 x.round.after calm.1 x.round.told_after) calm.2;
@@ -357,7 +356,7 @@ running_next log state lists kept first now new from to room todo todo' started 
       told_slots =
           next_slots log state lists kept first now new from to room todo todo' started started' slots slots' offers capacity idle quiet fin x ∙ ap (λ y. land_all y (posted x.round.ms)) x.run.told_slots
           ∙ lands_all started' offers (posted x.run.ms) (posted x.round.ms) (next_posts log state lists kept first now new from to room todo todo' started started' slots slots' offers capacity idle quiet fin x)
-          ∙ ap (slots_from 0 offers) (sym (posted-append x.run.ms x.round.ms));
+          ∙ ap (slots_from 0 offers) (sym (x.laws.join.posts x.run.ms x.round.ms));
       expected = next_strange log state lists kept first now new from to room todo todo' started started' slots slots' offers capacity idle quiet (Ok fin) x x.round.ends.0 ∙ x.round.ends.1;
       quiet_is = next_quiet log state lists kept first now new from to room todo todo' started started' slots slots' offers capacity idle quiet fin x quiet' e;
       started_is = omega (arith, counted, before, x.run.started_is, x.count);
@@ -423,12 +422,12 @@ whole_end log state lists first now ring room todo started slots offers capacity
 
 -- the beginning
 pub running_first : {P R : Type 0} (log : P → Option (List LogEvent)) (state : P → Option PartnerState) (lists : R → Option Lists) (first : P) (ring : R) (room : ℕ) (todo : List Taken) (started : ℕ) (slots : List Slot) (offers : List Offer) (capacity idle : ℕ)
-    → (l : Lists) → lists ring ≡ Some l → IsCalm l room → l.published ≡ [] → l.capacity ≡ capacity → todo ≡ all_taken offers → slots ≡ slots_from 0 offers [] → started ≡ 0 → (0 < l.capacity) × (0 < l.completion_capacity)
+    → ModelLaws → (l : Lists) → lists ring ≡ Some l → IsCalm l room → l.published ≡ [] → l.capacity ≡ capacity → todo ≡ all_taken offers → slots ≡ slots_from 0 offers [] → started ≡ 0 → (0 < l.capacity) × (0 < l.completion_capacity)
     → Running log state lists first first ring room todo started slots offers capacity idle 0
-running_first log state lists first ring room todo started slots offers capacity idle l told calm none size entries told_slots begun holds = record {
+running_first log state lists first ring room todo started slots offers capacity idle laws l told calm none size entries told_slots begun holds = record {
   ms = [];
-  logs = IsLogged-none (log first);
-  states = IsServed-none (state first);
+  logs = laws.stay.logs (log first);
+  states = laws.stay.states (state first);
   l = l;
   told = told;
   calm = calm;
@@ -449,12 +448,12 @@ running_first log state lists first ring room todo started slots offers capacity
 -- for the loop
 
 abbrev pub next_of : {P R : Type 0} (log : P → Option (List LogEvent)) (state : P → Option PartnerState) (lists : R → Option Lists) (kept : Completion → Completion) (first now new : P) (from to : R) (room : ℕ) (todo todo' : List Offer) (started started' : ℕ) (slots slots' : List Slot) (offers : List Offer) (capacity idle quiet : ℕ) (answer : Result Bool RunFault)
-    → Running log state lists first now from room (all_taken todo) started slots offers capacity idle quiet → Round log state lists kept now new from to (all_taken todo) (all_taken todo') started' slots slots' answer → ((c : Completion) → IsKept c (kept c))
+    → ModelLaws → Running log state lists first now from room (all_taken todo) started slots offers capacity idle quiet → Round log state lists kept now new from to (all_taken todo) (all_taken todo') started' slots slots' answer → ((c : Completion) → IsKept c (kept c))
     → started' + length todo' ≡ started + length todo → 0 < count_open slots → quiet < idle → Next log state lists kept first now new from to room (all_taken todo) (all_taken todo') started started' slots slots' offers capacity idle quiet answer
-next_of log state lists kept first now new from to room todo todo' started started' slots slots' offers capacity idle quiet answer run round keeps count left waits =
+next_of log state lists kept first now new from to room todo todo' started started' slots slots' offers capacity idle quiet answer laws run round keeps count left waits =
     let n = length-map todo (λ o. small o.entry o.loan) in
     let n' = length-map todo' (λ o. small o.entry o.loan) in
-    record { run = run; round = round; keeps = keeps; count = omega (arith, count, n, n'); unfinished = left; waits = omega (arith, waits) }
+    record { laws = laws; run = run; round = round; keeps = keeps; count = omega (arith, count, n, n'); unfinished = left; waits = omega (arith, waits) }
 
 pub some_open : (b : Bool) (k : ℕ) → (k ≡ 0 → IsTrue b) → b ≡ false → 0 < k
 some_open b zero f e = let h : IsTrue b = f refl in cc

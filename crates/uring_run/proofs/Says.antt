@@ -1,7 +1,7 @@
 -- What a run tells, from what its rounds did.
-use Rattle.std.proofs.Common.{◌≡◌, ℕ, ◌*◌, ◌<◌, ◌≤◌, Bool, false, List, [], ◌∷◌, ◌++◌, length, map, replicate, drop, All, IsSome, Result, Ok, Err, Option, Some, None, IfOk, IfErr, IfSome, refl, ap, sym, subst, ◌∙◌, arith}
+use Rattle.std.proofs.Common.{◌≡◌, ℕ, ◌*◌, ◌<◌, ◌≤◌, Bool, true, false, List, [], ◌∷◌, ◌++◌, length, map, replicate, drop, All, IsSome, Result, Ok, Err, Option, Some, None, IfOk, IfErr, IfSome, refl, ap, sym, subst, ◌∙◌, arith}
 use Rattle.std.specs.List.{AllByRecursion}
-use Rattle.std.proofs.lemmas.List.Elements.{All-from_recursion}
+use Rattle.std.proofs.lemmas.List.Elements.{All-from_recursion, recursion_from_All}
 use Rattle.std.proofs.Math.Seq.{drop-append_seam}
 use Rattle.uring_entry.specs.declared.events.Event.{Event}
 use Rattle.uring_entry.specs.declared.events.LogEvent.{LogEvent}
@@ -20,23 +20,21 @@ use Rattle.uring_model.specs.Progress.{turns}
 use Rattle.uring_model.specs.Explained.{Numbered, record_all, AllFresh, Explained}
 use Rattle.uring_model.specs.Honest.{HasOwnLoan}
 use Rattle.uring_model.specs.Strange.{nothing_seen, first_strange}
-use Rattle.uring_model.proofs.Joins.{IsLogged-none, IsServed-none}
-use Rattle.uring_model.proofs.Explained.{idle_explained, idle_moves}
-use Rattle.uring_model.proofs.Ends.{whole_where_set, idle_where_whole}
-use Rattle.uring_model.proofs.Honest.{no_post_is_strange, own_split, posts_keep, OfLoan, EachPost}
 use Rattle.uring_run.specs.declared.entries.Offer.{Offer}
 use Rattle.uring_run.specs.declared.slot.Slot.{Slot}
 use Rattle.uring_run.specs.declared.slot.Slot.TheVariants.{Done}
 use Rattle.uring_run.specs.Driven.{Driven, IsGivenUp}
-use Rattle.uring_run.specs.Entries.{offers_from, entries_from, all_taken, lends_in, lends_at, AllValid, AllInRange}
+use Rattle.uring_run.specs.declared.slot.Reply.{Reply}
+use Rattle.uring_run.specs.Entries.{offers_from, all_taken, reply_in, lends_in, lends_at, AllValid, AllInRange}
+use Rattle.uring_run.specs.Laws.{ModelLaws}
 use Rattle.uring_run.specs.Memory.{Explains, outcomes_told}
 use Rattle.uring_run.specs.Rounds.{is_stall, is_stranger_fault}
 use Rattle.uring_run.specs.Runs.{Ran, RunSays, outcomes_from, IsAnswered, IsFaulted}
 use Rattle.uring_run.specs.Slots.{count_open, slots_from}
 use Rattle.uring_run.proofs.EntryLemmas.{offers_count}
-use Rattle.uring_run.proofs.Asks.{asks_all, numbered_all, own_all, lends_first}
+use Rattle.uring_run.proofs.Asks.{asks_all, numbered_all, own_all, replies_first, asks, asks_list}
 use Rattle.uring_run.proofs.Prompt.{served_some}
-use Rattle.uring_run.proofs.Results.{results_from, results_first, record_results, steps_final, all_set, outcomes_of_slots, IsLent, lent_still, lent_all, told_outcomes}
+use Rattle.uring_run.proofs.Results.{results_from, results_first, record_results, steps_final, all_set, outcomes_of_slots, answers, answered, told_outcomes}
 
 -- the run by its jobs
 
@@ -53,8 +51,8 @@ ran_of log state old new jobs capacity idle d = record {
 }
 
 -- nothing was done
-pub not_driven : {P : Type 0} (log : P → Option (List LogEvent)) (state : P → Option PartnerState) (p : P) (jobs : List Job) (capacity idle : ℕ) → Driven log state p p (offers_from 0 jobs) capacity idle
-not_driven log state p jobs capacity idle = record { moves = []; ahead = all_taken (offers_from 0 jobs); logs = IsLogged-none (log p); states = IsServed-none (state p); entries = refl; busy = tt; within = tt; few = omega arith }
+pub not_driven : {P : Type 0} (laws : ModelLaws) (log : P → Option (List LogEvent)) (state : P → Option PartnerState) (p : P) (jobs : List Job) (capacity idle : ℕ) → Driven log state p p (offers_from 0 jobs) capacity idle
+not_driven laws log state p jobs capacity idle = record { moves = []; ahead = all_taken (offers_from 0 jobs); logs = laws.stay.logs (log p); states = laws.stay.states (state p); entries = refl; busy = tt; within = tt; few = omega arith }
 
 faulted_of : (jobs : List Job) (idle : ℕ) (log : List LogEvent) (e : RunFault) → IsGivenUp (offers_from 0 jobs) idle log e → IsFaulted jobs idle log e
 faulted_of jobs idle log (faults.Stranger u) h = h
@@ -66,37 +64,44 @@ faulted_of jobs idle log (faults.BadJob n) h = h
 
 -- over an idle partner that tells its files
 
+abbrev replies_at : List Job → ℕ → Reply
+replies_at jobs = reply_in (offers_from 0 jobs)
+
 pub record FromIdle (jobs : List Job) (a b : PartnerState) (ms : List Move) : Type 0 where
   pub explained : Explained (all_asked jobs) a.files a.choices ms b
   pub steps : Steps false (idle a.files a.choices) ms b
   pub honest : first_strange (lends_at jobs) nothing_seen (log_of ms) ≡ None
-  pub lent : EachPost (λ c. IsLent (lends_at jobs) c.user_data c.loan) (posted ms)
+  pub told : AllByRecursion (λ c. answers (replies_at jobs) c ≡ true) (posted ms)
   pub restful : IsWhole explained.state → IsIdle b
 
-lent_front : (lends : ℕ → Bool) (xs ys : List Taken) → AllByRecursion (OfLoan (IsLent lends)) (xs ++ ys) → AllByRecursion (OfLoan (IsLent lends)) xs
-lent_front lends [] ys h = tt
-lent_front lends (x ∷ xs) ys h = (h.0, lent_front lends xs ys h.1)
+-- what holds of a list's members holds of those of its front
+front_of : {A : Type 0} (P : A → Type 0) (xs ys : List A) → AllByRecursion P (xs ++ ys) → AllByRecursion P xs
+front_of P [] ys h = tt
+front_of P (x ∷ xs) ys h = (h.0, front_of P xs ys h.1)
 
-pub from_idle : {P : Type 0} (log : P → Option (List LogEvent)) (state : P → Option PartnerState) (old new : P) (jobs : List Job) (capacity bound : ℕ) (d : Driven log state old new (offers_from 0 jobs) capacity bound) → AllValid jobs → AllInRange jobs → (a : PartnerState) → state old ≡ Some a → IsIdle a
+pub from_idle : {P : Type 0} (laws : ModelLaws) (log : P → Option (List LogEvent)) (state : P → Option PartnerState) (old new : P) (jobs : List Job) (capacity bound : ℕ) (d : Driven log state old new (offers_from 0 jobs) capacity bound) → AllValid jobs → AllInRange jobs → (a : PartnerState) → state old ≡ Some a → IsIdle a
     → (b : PartnerState) × (state new ≡ Some b) × FromIdle jobs a b d.moves
-from_idle log state old new jobs capacity bound d valid range a told rests =
+from_idle laws log state old new jobs capacity bound d valid range a told rests =
     let served = served_some a d.moves (state new) (subst (λ o. IsServed o d.moves (state new)) told d.states) in
     let b = served.0 in
-    let asks : map job_of (took d.moves ++ d.ahead) ≡ last_unlinked (all_asked jobs) = ap (map job_of) d.entries ∙ asks_all 0 jobs valid range in
+    let same_jobs : map job_of (took d.moves ++ d.ahead) ≡ last_unlinked (all_asked jobs) = ap (map job_of) d.entries ∙ asks_all 0 jobs valid range in
     let numbered : Numbered 0 (took d.moves ++ d.ahead) = subst (Numbered 0) (sym d.entries) (numbered_all 0 jobs) in
     let calls : IsServed (Some a) d.moves (Some served.0) = served.2 in
-    let steps = idle_moves a b d.moves rests calls in
-    let own : All (HasOwnLoan (lends_at jobs)) (took d.moves ++ d.ahead) = subst (All (HasOwnLoan (lends_at jobs))) (sym d.entries) (All-from_recursion (HasOwnLoan (lends_at jobs)) (entries_from 0 jobs) (own_all (lends_at jobs) 0 jobs (lends_first jobs))) in
-    let lent : AllByRecursion (OfLoan (IsLent (lends_at jobs))) (took d.moves ++ d.ahead) = subst (AllByRecursion (OfLoan (IsLent (lends_at jobs)))) (sym d.entries) (lent_all (lends_at jobs) 0 jobs (lends_first jobs)) in
-    let explained = idle_explained (all_asked jobs) d.moves d.ahead a b rests asks numbered calls in (
+    let steps = laws.idle_moves a b d.moves rests calls in
+    let own : AllByRecursion (HasOwnLoan (lends_at jobs)) (took d.moves ++ d.ahead) = subst (AllByRecursion (HasOwnLoan (lends_at jobs))) (sym d.entries) (own_all (replies_at jobs) (lends_at jobs) (λ j. refl) 0 jobs (replies_first jobs)) in
+    let asked : AllByRecursion (λ t. asks (replies_at jobs) t ≡ true) (took d.moves ++ d.ahead) = subst (AllByRecursion (λ t. asks (replies_at jobs) t ≡ true)) (sym d.entries) (asks_list (replies_at jobs) 0 jobs (replies_first jobs) valid range) in
+    let explained = laws.explained (all_asked jobs) d.moves d.ahead a b rests same_jobs numbered calls in (
       b,
       served.1,
       record {
         explained = explained;
         steps = steps;
-        honest = no_post_is_strange (lends_at jobs) (all_asked jobs) a.files a.choices d.moves d.ahead b asks numbered steps (own_split (lends_at jobs) (took d.moves) d.ahead own) d.within;
-        lent = posts_keep (IsLent (lends_at jobs)) (lent_still (lends_at jobs)) false (idle a.files a.choices) b d.moves steps tt (lent_front (lends_at jobs) (took d.moves) d.ahead lent);
-        restful = λ w. idle_where_whole (all_asked jobs) a.files a.choices d.moves d.ahead b explained.state asks numbered steps explained.replays w;
+        honest = laws.honest (lends_at jobs) (all_asked jobs) a.files a.choices d.moves d.ahead b same_jobs numbered steps (All-from_recursion (HasOwnLoan (lends_at jobs)) (took d.moves) (front_of (HasOwnLoan (lends_at jobs)) (took d.moves) d.ahead own)) d.within;
+        told =
+            recursion_from_All (λ c. answers (replies_at jobs) c ≡ true) (posted d.moves)
+            (laws.answers (asks (replies_at jobs)) (answers (replies_at jobs)) a.files a.choices d.moves b (answered (replies_at jobs)) steps
+            (All-from_recursion (λ t. asks (replies_at jobs) t ≡ true) (took d.moves) (front_of (λ t. asks (replies_at jobs) t ≡ true) (took d.moves) d.ahead asked)));
+        restful = λ w. laws.restful (all_asked jobs) a.files a.choices d.moves d.ahead b explained.state same_jobs numbered steps explained.replays w;
       },
     )
 
@@ -123,15 +128,15 @@ fault_explains jobs a b ms e f honest prompt = record {
   fault = (honest, prompt);
 }
 
-pub says_fault : {P : Type 0} (log : P → Option (List LogEvent)) (state : P → Option PartnerState) (old new : P) (jobs : List Job) (capacity bound : ℕ) (e : RunFault) → AllValid jobs → AllInRange jobs
+pub says_fault : {P : Type 0} (laws : ModelLaws) (log : P → Option (List LogEvent)) (state : P → Option PartnerState) (old new : P) (jobs : List Job) (capacity bound : ℕ) (e : RunFault) → AllValid jobs → AllInRange jobs
     → (d : Driven log state old new (offers_from 0 jobs) capacity bound) → IsGivenUp (offers_from 0 jobs) bound (log_of d.moves) e → IfSome (state old) (λ a. IsIdle a → is_stall e ≡ false)
     → RunSays log state old new jobs capacity bound (Err e)
-says_fault log state old new jobs capacity bound e valid range d given stall = record {
+says_fault laws log state old new jobs capacity bound e valid range d given stall = record {
   ran = ran_of log state old new jobs capacity bound d;
   report = tt;
   fault = faulted_of jobs bound (log_of d.moves) e given;
   memory = λ a told rests.
-      let f = from_idle log state old new jobs capacity bound d valid range a told rests in
+      let f = from_idle laws log state old new jobs capacity bound d valid range a told rests in
       (f.0, f.1, fault_explains jobs a f.0 d.moves e f.2 (stranger_not e jobs bound (log_of d.moves) given f.2.honest) (some_told (state old) a (λ a. IsIdle a → is_stall e ≡ false) stall told rests));
 }
 
@@ -148,15 +153,15 @@ whole_results jobs a b ms f =
 pub answered_by : (jobs : List Job) (ms : List Move) (os : List Outcome) → first_strange (lends_at jobs) nothing_seen (log_of ms) ≡ None → map (λ o. Done o) os ≡ slots_from 0 (offers_from 0 jobs) (posted ms) → IsAnswered jobs (log_of ms) os
 answered_by jobs ms os honest slots = record {
   expected = honest;
-  outcomes = outcomes_of_slots 0 (offers_from 0 jobs) ms os slots ∙ ap (λ n. outcomes_from 0 n (log_of ms)) (offers_count 0 jobs);
+  outcomes = outcomes_of_slots jobs ms os slots;
 }
 
-whole_explains : (jobs : List Job) (a b : PartnerState) (ms : List Move) (report : Report) → FromIdle jobs a b ms → count_open (slots_from 0 (offers_from 0 jobs) (posted ms)) ≡ 0 → map (λ o. Some o) report.outcomes.items ≡ outcomes_from 0 (length jobs) (log_of ms) → turns ms ≤ length jobs
+whole_explains : (laws : ModelLaws) (jobs : List Job) (a b : PartnerState) (ms : List Move) (report : Report) → FromIdle jobs a b ms → count_open (slots_from 0 (offers_from 0 jobs) (posted ms)) ≡ 0 → map (λ o. Some o) report.outcomes.items ≡ outcomes_from 0 jobs (log_of ms) → turns ms ≤ length jobs
     → Explains (all_asked jobs) a ms b (Ok report)
-whole_explains jobs a b ms report f none answers few =
+whole_explains laws jobs a b ms report f none answers few =
     let results = whole_results jobs a b ms f in
     let set : All IsSome (table f.explained.state) = subst (All IsSome) (sym results) (All-from_recursion IsSome (results_from 0 (offers_from 0 jobs) (posted ms)) (all_set 0 (offers_from 0 jobs) (posted ms) none)) in
-    let whole = whole_where_set f.explained.state set in
+    let whole = laws.whole f.explained.state set in
     record {
       end = f.explained.state;
       replays = f.explained.replays;
@@ -164,7 +169,7 @@ whole_explains jobs a b ms report f none answers few =
       files = f.explained.files_at_end;
       report = record {
         whole = whole;
-        outcomes = answers ∙ sym (told_outcomes (lends_at jobs) 0 jobs ms (lends_first jobs) f.lent) ∙ ap (outcomes_told (all_asked jobs)) (sym results);
+        outcomes = answers ∙ sym (told_outcomes (replies_at jobs) 0 jobs ms (replies_first jobs) f.told) ∙ ap (outcomes_told (all_asked jobs)) (sym results);
         idle = f.restful whole;
         few = subst (λ n. turns ms ≤ n) (sym (length-map jobs asked)) few;
       };
@@ -177,46 +182,46 @@ journal_gain (Some l) p ms start journal h s j =
     let told : journal ≡ map event_of (drop start (l ++ log_of ms)) = subst (λ x. IfSome x (λ l. journal ≡ map event_of (drop start l))) h j in
     told ∙ ap (λ n. map event_of (drop n (l ++ log_of ms))) s ∙ ap (map event_of) (drop-append_seam l (log_of ms))
 
-pub says_report : {P : Type 0} (log : P → Option (List LogEvent)) (state : P → Option PartnerState) (old new : P) (jobs : List Job) (capacity bound : ℕ) (report : Report) (start : ℕ) → AllValid jobs → AllInRange jobs
+pub says_report : {P : Type 0} (laws : ModelLaws) (log : P → Option (List LogEvent)) (state : P → Option PartnerState) (old new : P) (jobs : List Job) (capacity bound : ℕ) (report : Report) (start : ℕ) → AllValid jobs → AllInRange jobs
     → (d : Driven log state old new (offers_from 0 jobs) capacity bound) → first_strange (lends_in (offers_from 0 jobs)) nothing_seen (log_of d.moves) ≡ None
     → count_open (slots_from 0 (offers_from 0 jobs) (posted d.moves)) ≡ 0 → map (λ o. Done o) report.outcomes.items ≡ slots_from 0 (offers_from 0 jobs) (posted d.moves)
     → IfSome (log old) (λ l. start ≡ length l) → IfSome (log new) (λ l. report.journal.items ≡ map event_of (drop start l))
     → ((a : PartnerState) → state old ≡ Some a → IsIdle a → turns d.moves ≤ length (offers_from 0 jobs))
     → RunSays log state old new jobs capacity bound (Ok report)
-says_report log state old new jobs capacity bound report start valid range d honest none slots at journal few =
+says_report laws log state old new jobs capacity bound report start valid range d honest none slots at journal few =
     let answered = answered_by jobs d.moves report.outcomes.items honest slots in
     record {
       ran = ran_of log state old new jobs capacity bound d;
       report = record { answered = answered; journal = journal_gain (log old) (log new) d.moves start report.journal.items d.logs at journal };
       fault = tt;
       memory = λ a told rests.
-          let f = from_idle log state old new jobs capacity bound d valid range a told rests in
-          (f.0, f.1, whole_explains jobs a f.0 d.moves report f.2 none answered.outcomes (subst (λ n. turns d.moves ≤ n) (offers_count 0 jobs) (few a told rests)));
+          let f = from_idle laws log state old new jobs capacity bound d valid range a told rests in
+          (f.0, f.1, whole_explains laws jobs a f.0 d.moves report f.2 none answered.outcomes (subst (λ n. turns d.moves ≤ n) (offers_count 0 jobs) (few a told rests)));
     }
 
 pub not_stalled : (o : Option PartnerState) → IfSome o (λ a. IsIdle a → is_stall faults.NoMemory ≡ false)
 not_stalled None = tt
 not_stalled (Some a) = λ h. refl
 
-told_either : {P : Type 0} (log : P → Option (List LogEvent)) (state : P → Option PartnerState) (old new : P) (jobs : List Job) (capacity bound : ℕ) (start : ℕ) (slots : List Slot) (r : Result Report RunFault) → AllValid jobs → AllInRange jobs
+told_either : {P : Type 0} (laws : ModelLaws) (log : P → Option (List LogEvent)) (state : P → Option PartnerState) (old new : P) (jobs : List Job) (capacity bound : ℕ) (start : ℕ) (slots : List Slot) (r : Result Report RunFault) → AllValid jobs → AllInRange jobs
     → (d : Driven log state old new (offers_from 0 jobs) capacity bound) → count_open slots ≡ 0 → slots ≡ slots_from 0 (offers_from 0 jobs) (posted d.moves) → first_strange (lends_in (offers_from 0 jobs)) nothing_seen (log_of d.moves) ≡ None → ((a : PartnerState) → state old ≡ Some a → IsIdle a → turns d.moves ≤ length (offers_from 0 jobs))
     → IfOk r (λ report. map (λ o. Done o) report.outcomes.items ≡ slots) → IfOk r (λ report. IfSome (log new) (λ l. report.journal.items ≡ map event_of (drop start l))) → IfErr r (λ e. e ≡ faults.NoMemory) → IfSome (log old) (λ l. start ≡ length l)
     → RunSays log state old new jobs capacity bound r
-told_either log state old new jobs capacity bound start slots (Ok report) valid range d none told honest few outcomes journal err at =
-    says_report log state old new jobs capacity bound report start valid range d honest (ap count_open (sym told) ∙ none) (outcomes ∙ told) at journal few
-told_either log state old new jobs capacity bound start slots (Err e) valid range d none told honest few outcomes journal err at =
-    subst (λ e. RunSays log state old new jobs capacity bound (Err e)) (sym err) (says_fault log state old new jobs capacity bound faults.NoMemory valid range d tt (not_stalled (state old)))
+told_either laws log state old new jobs capacity bound start slots (Ok report) valid range d none told honest few outcomes journal err at =
+    says_report laws log state old new jobs capacity bound report start valid range d honest (ap count_open (sym told) ∙ none) (outcomes ∙ told) at journal few
+told_either laws log state old new jobs capacity bound start slots (Err e) valid range d none told honest few outcomes journal err at =
+    subst (λ e. RunSays log state old new jobs capacity bound (Err e)) (sym err) (says_fault laws log state old new jobs capacity bound faults.NoMemory valid range d tt (not_stalled (state old)))
 
 -- what a run tells by its report, or by want of memory for it
-pub says_either : {P : Type 0} (log : P → Option (List LogEvent)) (state : P → Option PartnerState) (old new : P) (jobs : List Job) (capacity bound : ℕ) (start : ℕ) (slots : List Slot) (offers : List Offer) (r : Result Report RunFault) → AllValid jobs → AllInRange jobs → offers ≡ offers_from 0 jobs
+pub says_either : {P : Type 0} (laws : ModelLaws) (log : P → Option (List LogEvent)) (state : P → Option PartnerState) (old new : P) (jobs : List Job) (capacity bound : ℕ) (start : ℕ) (slots : List Slot) (offers : List Offer) (r : Result Report RunFault) → AllValid jobs → AllInRange jobs → offers ≡ offers_from 0 jobs
     → ((d : Driven log state old new offers capacity bound) × ((count_open slots ≡ 0) × (slots ≡ slots_from 0 offers (posted d.moves)) × (first_strange (lends_in offers) nothing_seen (log_of d.moves) ≡ None) × ((a : PartnerState) → state old ≡ Some a → IsIdle a → turns d.moves ≤ length offers)))
     → IfOk r (λ report. map (λ o. Done o) report.outcomes.items ≡ slots) → IfOk r (λ report. IfSome (log new) (λ l. report.journal.items ≡ map event_of (drop start l))) → IfErr r (λ e. e ≡ faults.NoMemory)
     → IfSome (log old) (λ l. start ≡ length l)
     → RunSays log state old new jobs capacity bound r
-says_either log state old new jobs capacity bound start slots offers r valid range same run outcomes journal err at =
+says_either laws log state old new jobs capacity bound start slots offers r valid range same run outcomes journal err at =
     let whole : (d : Driven log state old new (offers_from 0 jobs) capacity bound) × ((count_open slots ≡ 0) × (slots ≡ slots_from 0 (offers_from 0 jobs) (posted d.moves)) × (first_strange (lends_in (offers_from 0 jobs)) nothing_seen (log_of d.moves) ≡ None) × ((a : PartnerState) → state old ≡ Some a → IsIdle a → turns d.moves ≤ length (offers_from 0 jobs))) =
     subst (λ o. (d : Driven log state old new o capacity bound) × ((count_open slots ≡ 0) × (slots ≡ slots_from 0 o (posted d.moves)) × (first_strange (lends_in o) nothing_seen (log_of d.moves) ≡ None) × ((a : PartnerState) → state old ≡ Some a → IsIdle a → turns d.moves ≤ length o))) same run in
-    told_either log state old new jobs capacity bound start slots r valid range whole.0 whole.1.0 whole.1.1 whole.1.2 whole.1.3 outcomes journal err at
+    told_either laws log state old new jobs capacity bound start slots r valid range whole.0 whole.1.0 whole.1.1 whole.1.2 whole.1.3 outcomes journal err at
 
 -- the log's length is where its gain begins
 pub gain_at : (o : Option (List LogEvent)) (start count : ℕ) → start ≡ count → IfSome o (λ l. count ≡ length l) → IfSome o (λ l. start ≡ length l)

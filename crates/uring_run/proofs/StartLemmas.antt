@@ -15,13 +15,15 @@ use Rattle.uring_model.specs.declared.jobs.JobKind.{JobKind}
 use Rattle.uring_model.specs.declared.jobs.JobKind.TheVariants.{Nop, Read, Write, Fsync, Ftruncate, Cancel}
 use Rattle.uring_run.specs.declared.flights.InFlight.{InFlight}
 use Rattle.uring_run.specs.declared.entries.Offer.{Offer}
+use Rattle.uring_run.specs.declared.slot.Reply.{Reply}
+use Rattle.uring_run.specs.declared.slot.Reply.TheVariants.{Plain}
 use Rattle.uring_run.specs.declared.slot.Slot.{Slot}
 use Rattle.uring_run.specs.declared.slot.Slot.TheVariants.{Open, Done}
 use Rattle.uring_entry.specs.Completions.{is_final}
-use Rattle.uring_run.specs.Told.{outcome_from}
+use Rattle.uring_run.specs.Told.{Ending, reply_for, lends, outcome_from}
 use Rattle.uring_run.specs.Entries.{words_of, with_drain, with_link, entry_of, loan_of, offer_of, unlinked_if, offers_from}
-use Rattle.uring_run.specs.Slots.{slots_from, is_strange_at, is_stranger, land_one, land_all, stranger_among}
-use Rattle.uring_run.specs.Flights.{WasLent, AreLent, jobs_of, flight_of, flight_in, all_polled, times_in, AreOperated, NoneResolved, IsAhead, AreAhead, IsSettled}
+use Rattle.uring_run.specs.Slots.{slots_from, is_strange_at, is_stranger, land_in, land_one, land_all, stranger_among}
+use Rattle.uring_run.specs.Flights.{WasLent, AreReplied, jobs_of, flight_of, flight_in, all_polled, times_in, AreOperated, NoneResolved, IsAhead, AreAhead, IsSettled}
 use Rattle.uring_run.proofs.FlightLemmas.{either_way, at_insert, none_polled, times-append, itself, set_else}
 
 -- the entry of a job, with its marks
@@ -70,12 +72,12 @@ next_below n m e = grind (arith, nat_tests)
 one_below : (n : ℕ) → nat_lt n (n + 1) ≡ true
 one_below n = grind (arith, nat_tests)
 
-module _ (ops : Ops) (begun : ℕ) (slots : List Slot) (jobs : List ℕ) (lends : Bool) (a : AreOperated ops begun slots jobs) (h : NoneResolved ops) (o : slice_get slots begun ≡ Some (Open lends)) where
+module _ (ops : Ops) (begun : ℕ) (slots : List Slot) (jobs : List ℕ) (reply : Reply) (a : AreOperated ops begun slots jobs) (h : NoneResolved ops) (o : slice_get slots begun ≡ Some (Open reply)) where
   abbrev more : Ops
-  more = started begun lends ops
+  more = started begun (lends reply) ops
 
   abbrev flight : Flight
-  flight = record { lent = lends; forgotten = false }
+  flight = record { lent = lends reply; forgotten = false }
 
   same_slots : all_polled more slots ≡ all_polled ops slots
   same_slots = none_polled more slots h ∙ sym (none_polled ops slots h)
@@ -115,12 +117,12 @@ module _ (ops : Ops) (begun : ℕ) (slots : List Slot) (jobs : List ℕ) (lends 
 
 -- the same, by what a start told
 pub started_next : (ops : Ops) (begun : ℕ) (slots : List Slot) (jobs : List ℕ) (offer : Offer) → AreOperated ops begun slots jobs → NoneResolved ops → IsAhead begun slots offer
-    → (ops' : Ops) (begun' : ℕ) (slots' : List Slot) (jobs' : List ℕ) → ops' ≡ started begun (is_some offer.loan) ops → begun' ≡ begun + 1 → slots' ≡ slots → jobs' ≡ jobs ++ begun ∷ []
+    → (ops' : Ops) (begun' : ℕ) (slots' : List Slot) (jobs' : List ℕ) → ops' ≡ started begun (lends offer.reply) ops → begun' ≡ begun + 1 → slots' ≡ slots → jobs' ≡ jobs ++ begun ∷ []
     → AreOperated ops' begun' slots' jobs' × NoneResolved ops'
 started_next ops begun slots jobs offer a h o ops' begun' slots' jobs' e f g k =
-    let lends = is_some offer.loan in
-    let p = one_started ops begun slots jobs lends a h o.slot in (
-      subst (λ x. AreOperated x begun' slots' jobs') (sym e) (subst (λ x. AreOperated (started begun lends ops) x slots' jobs') (sym f) (subst (λ x. AreOperated (started begun lends ops) (begun + 1) x jobs') (sym g) (subst (λ x. AreOperated (started begun lends ops) (begun + 1) slots x) (sym k) p))),
+    let lent = lends offer.reply in
+    let p = one_started ops begun slots jobs offer.reply a h o.slot in (
+      subst (λ x. AreOperated x begun' slots' jobs') (sym e) (subst (λ x. AreOperated (started begun lent ops) x slots' jobs') (sym f) (subst (λ x. AreOperated (started begun lent ops) (begun + 1) x jobs') (sym g) (subst (λ x. AreOperated (started begun lent ops) (begun + 1) slots x) (sym k) p))),
       subst NoneResolved (sym e) h,
     )
 
@@ -135,11 +137,16 @@ ahead_set : (n m : ℕ) (slots : List Slot) (v : Slot) (todo : List Offer) → m
 ahead_set n m slots v [] lt a = tt
 ahead_set n m slots v (offer ∷ todo) lt a =
     let other : nat_eq m n ≡ false = grind (arith, nat_tests, lt) in
-    (record { number = a.0.number; loan = a.0.loan; slot = set_else slots m n v other ∙ a.0.slot }, ahead_set (n + 1) m slots v todo (omega (arith, lt)) a.1)
+    (record { number = a.0.number; slot = set_else slots m n v other ∙ a.0.slot }, ahead_set (n + 1) m slots v todo (omega (arith, lt)) a.1)
 
-ahead_if : (b : Bool) (n m : ℕ) (slots : List Slot) (v : Slot) (todo : List Offer) → m < n → AreAhead n slots todo → AreAhead n (cond b (slice_set slots m v) slots) todo
-ahead_if true n m slots v todo lt a = ahead_set n m slots v todo lt a
-ahead_if false n m slots v todo lt a = a
+ahead_in : (slot : Option Slot) (n m : ℕ) (slots : List Slot) (e : Ending) (todo : List Offer) → m < n → AreAhead n slots todo → AreAhead n (land_in slot slots m e) todo
+ahead_in None n m slots e todo lt a = a
+ahead_in (Some (Done o)) n m slots e todo lt a = a
+ahead_in (Some (Open reply)) n m slots e todo lt a = ahead_set n m slots (Done (outcome_from reply e)) todo lt a
+
+ahead_if : (b : Bool) (n m : ℕ) (slots : List Slot) (e : Ending) (todo : List Offer) → m < n → AreAhead n slots todo → AreAhead n (cond b (land_in (slice_get slots m) slots m e) slots) todo
+ahead_if true n m slots e todo lt a = ahead_in (slice_get slots m) n m slots e todo lt a
+ahead_if false n m slots e todo lt a = a
 
 due_first : (b : Bool) (u : ℕ) (o : Option ℕ) → cond b (Some u) o ≡ None → (b ≡ false) × (o ≡ None)
 due_first true u o e = let bad : Some u ≡ None = e in cc
@@ -157,7 +164,7 @@ ahead_landed n slots todo [] e a = a
 ahead_landed n slots todo (c ∷ cs) e a =
     let p = due_first (is_stranger n slots c) c.user_data (stranger_among n (land_one slots c) cs) e in
     let lt = started_first c.user_data n (is_strange_at (slice_get slots c.user_data) c) p.0 in
-    ahead_landed n (land_one slots c) todo cs p.1 (ahead_if (is_final c.flags) n c.user_data slots (Done (outcome_from (record { result = c.result; loan = c.loan }))) todo lt a)
+    ahead_landed n (land_one slots c) todo cs p.1 (ahead_if (is_final c.flags) n c.user_data slots (record { result = c.result; loan = c.loan }) todo lt a)
 
 -- before the first round
 
@@ -177,18 +184,10 @@ none_operated slots = record {
   listed = λ n. ap (λ b. cond b 1 0) (sym (unknown_first n));
 }
 
-loan_from : (n : ℕ) (kind : JobKind) → IfSome (loan_of n kind) (λ l. (l.number ≡ n) × (l.from ≡ 0))
-loan_from n Nop = tt
-loan_from n (Read file offset buf) = (refl, refl)
-loan_from n (Write file offset buf) = (refl, refl)
-loan_from n (Fsync file) = tt
-loan_from n (Ftruncate file len) = tt
-loan_from n (Cancel job) = tt
-
-first_ahead : (n : ℕ) (slots : List Slot) (job : Job) (rest : List Slot) → ((k : ℕ) → slice_get (Open (is_some (loan_of n job.kind)) ∷ rest) k ≡ slice_get slots (n + k)) → IsAhead n slots (offer_of n job)
+first_ahead : (n : ℕ) (slots : List Slot) (job : Job) (rest : List Slot) → ((k : ℕ) → slice_get (Open (reply_for job.kind) ∷ rest) k ≡ slice_get slots (n + k)) → IsAhead n slots (offer_of n job)
 first_ahead n slots job rest f =
     let e : n + 0 ≡ n = omega arith in
-    record { number = refl; loan = loan_from n job.kind; slot = ap (slice_get slots) (sym e) ∙ sym (f 0) }
+    record { number = refl; slot = ap (slice_get slots) (sym e) ∙ sym (f 0) }
 
 all_ahead : (n : ℕ) (slots : List Slot) (jobs : List Job) → ((k : ℕ) → slice_get (slots_from n (offers_from n jobs) []) k ≡ slice_get slots (n + k)) → AreAhead n slots (offers_from n jobs)
 all_ahead n slots [] f = tt
@@ -201,18 +200,18 @@ all_ahead n slots (job ∷ next ∷ jobs) f = (
 pub ahead_first : (jobs : List Job) → AreAhead 0 (slots_from 0 (offers_from 0 jobs) []) (offers_from 0 jobs)
 ahead_first jobs = all_ahead 0 (slots_from 0 (offers_from 0 jobs) []) jobs (λ k. let e : k ≡ 0 + k = omega arith in ap (slice_get (slots_from 0 (offers_from 0 jobs) [])) e)
 
--- what an open slot lends
-lent_in : Option Slot → Bool
-lent_in None = false
-lent_in (Some (Open lent)) = lent
-lent_in (Some (Done outcome)) = false
+-- what an open slot waits for
+waits_for : Option Slot → Reply
+waits_for None = Plain
+waits_for (Some (Open reply)) = reply
+waits_for (Some (Done outcome)) = Plain
 
-pub none_lent : (slots : List Slot) → AreLent slots []
-unfolding lent_in
-none_lent slots = record {
-  lends = λ n. lent_in (slice_get slots n);
-  slots_lend = λ n lent e. sym (ap lent_in e);
-  flights_lend = tt;
+pub none_replied : (slots : List Slot) → AreReplied slots []
+unfolding waits_for
+none_replied slots = record {
+  replies = λ n. waits_for (slice_get slots n);
+  of_slots = λ n reply e. sym (ap waits_for e);
+  of_flights = tt;
 }
 
 pub settled_first : (ops : Ops) (begun : ℕ) (slots : List Slot) (flights : List InFlight) (todo : List Offer) (jobs : List Job) → ops ≡ no_ops → begun ≡ 0 → slots ≡ slots_from 0 todo [] → flights ≡ [] → todo ≡ offers_from 0 jobs → IsSettled ops begun slots flights todo
@@ -220,7 +219,7 @@ settled_first ops begun slots flights todo jobs e f g h k =
     let here = g ∙ ap (λ o. slots_from 0 o []) k in
     record {
       operated = subst (λ x. AreOperated x begun slots (jobs_of flights)) (sym e) (subst (λ x. AreOperated no_ops x slots (jobs_of flights)) (sym f) (subst (λ x. AreOperated no_ops 0 slots (jobs_of x)) (sym h) (none_operated slots)));
-      lent = subst (AreLent slots) (sym h) (none_lent slots);
+      replied = subst (AreReplied slots) (sym h) (none_replied slots);
       none = subst NoneResolved (sym e) (λ n. get-empty nat_cmp n);
       ahead = subst (λ x. AreAhead x slots todo) (sym f) (subst (λ x. AreAhead 0 x todo) (sym here) (subst (AreAhead 0 (slots_from 0 (offers_from 0 jobs) [])) (sym k) (ahead_first jobs)));
     }

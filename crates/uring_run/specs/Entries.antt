@@ -1,12 +1,10 @@
 -- The entry and the loan that each job becomes.
-use Rattle.std.specs.Prelude.{◌≡◌, ℕ, zero, suc, ◌+◌, ◌<◌, ◌^◌, Bool, true, false, if◌then◌else◌, List, [], ◌∷◌, length, map, bit_or, Option, Some, None, is_some}
+use Rattle.std.specs.Prelude.{◌≡◌, ℕ, zero, suc, ◌+◌, ◌<◌, ◌^◌, Bool, true, false, if◌then◌else◌, List, [], ◌∷◌, length, map, bit_or, Option, Some, None}
 use Rattle.uring_entry.specs.declared.squeue.Entry.{Entry}
 use Rattle.uring_entry.specs.declared.buffer.Loan.{Loan}
 use Rattle.uring_entry.specs.declared.events.Taken.{Taken}
 use Rattle.uring_entry.specs.declared.types.Target.TheVariants.{Fixed}
-use Rattle.uring_entry.specs.Words.{blank, no_fd}
-use Rattle.uring_entry.specs.Targets.{on}
-use Rattle.uring_ops_file.specs.Rows.{new_nop, nop_words, new_read, read_words, new_write, write_words}
+use Rattle.uring_ops_file.specs.Rows.{new_nop, nop_words, new_fsync, fsync_words, new_async_cancel, async_cancel_words, new_read, read_words, new_write, write_words, new_ftruncate, ftruncate_words}
 use Rattle.uring_model.specs.declared.jobs.Link.{Link}
 use Rattle.uring_model.specs.declared.jobs.Link.TheVariants.{Free, Soft, Hard}
 use Rattle.uring_model.specs.declared.jobs.Job.{Job}
@@ -15,15 +13,18 @@ use Rattle.uring_model.specs.declared.jobs.JobKind.TheVariants.{Nop, Read, Write
 use Rattle.uring_model.specs.Jobs.{asked, is_valid_job}
 use Rattle.uring_ring.specs.Lists.{small}
 use Rattle.uring_run.specs.declared.entries.Offer.{Offer}
+use Rattle.uring_run.specs.declared.slot.Reply.{Reply}
+use Rattle.uring_run.specs.declared.slot.Reply.TheVariants.{Plain}
+use Rattle.uring_run.specs.Told.{reply_for, lends}
 
 -- the words of job j; a file is a registered one, and a read's or write's loan has the job's number
 abbrev pub words_of : ℕ → JobKind → Entry
 words_of j Nop = nop_words new_nop
 words_of j (Read file offset buf) = read_words (record (new_read (Fixed file) j (length buf)) { offset = offset })
 words_of j (Write file offset buf) = write_words (record (new_write (Fixed file) j (length buf)) { offset = offset })
-words_of j (Fsync file) = on (Fixed file) (blank 3)
-words_of j (Ftruncate file len) = on (Fixed file) (record (blank 55) { off = len })
-words_of j (Cancel job) = record (blank 14) { fd = no_fd; addr = job }
+words_of j (Fsync file) = fsync_words (new_fsync (Fixed file))
+words_of j (Ftruncate file len) = ftruncate_words (new_ftruncate (Fixed file) len)
+words_of j (Cancel job) = async_cancel_words (new_async_cancel job)
 
 -- the flag IO_DRAIN for a drained job, and IO_LINK or IO_HARDLINK for a linked one
 abbrev pub with_drain : Bool → Entry → Entry
@@ -46,7 +47,7 @@ loan_of j (Ftruncate file len) = None
 loan_of j (Cancel job) = None
 
 abbrev pub offer_of : ℕ → Job → Offer
-offer_of j job = record { entry = entry_of j job; loan = loan_of j job.kind }
+offer_of j job = record { entry = entry_of j job; loan = loan_of j job.kind; reply = reply_for job.kind }
 
 abbrev pub unlinked_if : Bool → Job → Job
 unlinked_if is_last job = record job { link = if is_last then Free else job.link }
@@ -65,11 +66,15 @@ all_taken offers = map (λ o. small o.entry o.loan) offers
 abbrev pub entries_from : ℕ → List Job → List Taken
 entries_from j jobs = all_taken (offers_from j jobs)
 
--- whether offer j lends a buffer, and whether job j does
+-- what the outcome of offer j tells; whether it lends a buffer, and whether job j does
+
+abbrev pub reply_in : List Offer → ℕ → Reply
+reply_in [] j = Plain
+reply_in (offer ∷ offers) zero = offer.reply
+reply_in (offer ∷ offers) (suc j) = reply_in offers j
+
 abbrev pub lends_in : List Offer → ℕ → Bool
-lends_in [] j = false
-lends_in (offer ∷ offers) zero = is_some offer.loan
-lends_in (offer ∷ offers) (suc j) = lends_in offers j
+lends_in offers j = lends (reply_in offers j)
 
 abbrev pub lends_at : List Job → ℕ → Bool
 lends_at jobs = lends_in (offers_from 0 jobs)

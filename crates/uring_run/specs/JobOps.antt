@@ -1,17 +1,21 @@
 -- The operation of a job.
-use Rattle.std.specs.Prelude.{ℕ, Bool, true, false, Option, Some}
+use Rattle.std.specs.Prelude.{ℕ, Option, Some}
 use Rattle.rent_engine.specs.OneOp.{stage_key}
 use Rattle.uring_run.specs.declared.job_op.JobOp.{JobOp}
-use Rattle.uring_run.specs.declared.job_op.JobOp.TheVariants.{Read, Write, Plain}
+use Rattle.uring_run.specs.declared.job_op.JobOp.TheVariants as ops
+use Rattle.uring_run.specs.declared.slot.Reply.{Reply}
+use Rattle.uring_run.specs.declared.slot.Reply.TheVariants.{Plain, Buffer, Success}
 
 -- the number under which it was started
 abbrev pub key_of : JobOp → Option ℕ
-key_of (Read state) = stage_key state
-key_of (Write state) = stage_key state
-key_of (Plain key) = Some key
+key_of (ops.Read state) = stage_key state
+key_of (ops.Write state) = stage_key state
+key_of (ops.Sync state) = stage_key state
+key_of (ops.Plain key) = Some key
 
--- a read or a write lends its buffer
-abbrev pub lends_buffer : JobOp → Bool
-lends_buffer (Read state) = true
-lends_buffer (Write state) = true
-lends_buffer (Plain key) = false
+-- what it tells of its end
+abbrev pub reply_of : JobOp → Reply
+reply_of (ops.Read state) = Buffer
+reply_of (ops.Write state) = Buffer
+reply_of (ops.Sync state) = Success
+reply_of (ops.Plain key) = Plain

@@ -1,4 +1,5 @@
 pub mod Entries
+pub mod Laws
 pub mod Told
 pub mod Slots
 pub mod JobOps

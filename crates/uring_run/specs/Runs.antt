@@ -1,5 +1,5 @@
 -- What a run of jobs promises over every partner.
-use Rattle.std.specs.Prelude.{◌≡◌, ℕ, zero, suc, ◌+◌, ◌*◌, ◌≤◌, ◌<◌, true, if◌then◌else◌, List, [], ◌∷◌, ◌++◌, length, map, Result, Option, Some, None, IfOk, IfErr, IfSome}
+use Rattle.std.specs.Prelude.{◌≡◌, ℕ, ◌+◌, ◌*◌, ◌≤◌, ◌<◌, true, if◌then◌else◌, List, [], ◌∷◌, ◌++◌, length, map, Result, Option, Some, None, IfOk, IfErr, IfSome}
 use Rattle.std.specs.Option.{option_map}
 use Rattle.uring_entry.specs.declared.events.Taken.{Taken}
 use Rattle.uring_entry.specs.declared.events.LogEvent.{LogEvent}
@@ -18,7 +18,7 @@ use Rattle.uring_model.specs.Honest.{TakesWithinTurns}
 use Rattle.uring_model.specs.Strange.{nothing_seen, first_strange}
 use Rattle.uring_run.specs.Entries.{entries_from, lends_at, first_bad}
 use Rattle.uring_run.specs.Memory.{Explains}
-use Rattle.uring_run.specs.Told.{first_final, quiet_turns, outcome_from}
+use Rattle.uring_run.specs.Told.{first_final, quiet_turns, reply_for, outcome_from}
 
 -- What the partner did in a run, whatever its answer: `moves` are what its log and its state gained, where it tells them.
 -- It took the jobs' entries in their order; each turn began with the ring full or all jobs pushed, and took no more
@@ -33,15 +33,15 @@ pub record Ran {P : Type 0} (log : P → Option (List LogEvent)) (state : P → 
   pub within : TakesWithinTurns 0 moves
   pub few : turns moves ≤ idle * length jobs
 
--- what the first final posts tell of so many jobs, counted from n
-abbrev pub outcomes_from : ℕ → ℕ → List LogEvent → List (Option Outcome)
-outcomes_from n zero log = []
-outcomes_from n (suc count) log = option_map outcome_from (first_final n log) ∷ outcomes_from (n + 1) count log
+-- what the first final posts tell of the jobs, counted from n
+abbrev pub outcomes_from : ℕ → List Job → List LogEvent → List (Option Outcome)
+outcomes_from n [] log = []
+outcomes_from n (job ∷ jobs) log = option_map (outcome_from (reply_for job.kind)) (first_final n log) ∷ outcomes_from (n + 1) jobs log
 
 -- No post of the log is strange, and each job has the outcome that its first final post tells.
 pub record IsAnswered (jobs : List Job) (log : List LogEvent) (answers : List Outcome) : Type 0 where
   pub expected : first_strange (lends_at jobs) nothing_seen log ≡ None
-  pub outcomes : map (λ o. Some o) answers ≡ outcomes_from 0 (length jobs) log
+  pub outcomes : map (λ o. Some o) answers ≡ outcomes_from 0 jobs log
 
 -- Some job has no final post, and none stands behind the last `idle` turns.
 pub record IsStalled (jobs : List Job) (idle : ℕ) (log : List LogEvent) : Type 0 where

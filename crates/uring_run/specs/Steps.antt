@@ -11,7 +11,9 @@ use Rattle.rent_engine.specs.Ops.{Ops, done_at, knows, started, polled, taken_ou
 use Rattle.uring_run.specs.Entries.{words_of, loan_of}
 use Rattle.uring_run.specs.Rounds.{pushed_more}
 use Rattle.uring_run.specs.Flights.{outcome_polled}
-use Rattle.uring_run.specs.JobOps.{key_of, lends_buffer}
+use Rattle.uring_run.specs.JobOps.{key_of, reply_of}
+use Rattle.uring_run.specs.Told.{reply_for, lends}
+use Rattle.uring_run.specs.declared.slot.Reply.{Reply}
 use Rattle.uring_run.specs.declared.job_op.JobOp.{JobOp}
 use Rattle.uring_run.specs.declared.job_op.JobPoll.{JobPoll}
 use Rattle.uring_run.specs.declared.job_op.JobPoll.TheVariants.{Ready, Pending}
@@ -34,28 +36,28 @@ pub record IsBegun {R : Type 0} (lists : R → Option Lists) (room waiting : R �
   pub told : Becomes (lists before) (pushed_more (small (with_marks n kind bits) (loan_of n kind) ∷ [])) (lists after)
   pub places : room before ≡ room after + 1
   pub seen : waiting after ≡ waiting before
-  pub operations : ops' ≡ started n (is_some (loan_of n kind)) ops
+  pub operations : ops' ≡ started n (lends (reply_for kind)) ops
   pub key : key_of op ≡ Some n
-  pub lends : lends_buffer op ≡ is_some (loan_of n kind)
+  pub reply : reply_of op ≡ reply_for kind
 
 -- what a poll of a job's operation answers, by what the engine does
-abbrev pub Tells : ℕ → Bool → OpPoll → JobPoll → Type 0
-Tells n lends (polls.Ready done) (Ready outcome) = outcome ≡ outcome_polled done
-Tells n lends (polls.Ready done) (Pending op) = ⊥
-Tells n lends (polls.Pending k) (Ready outcome) = ⊥
-Tells n lends (polls.Pending k) (Pending op) = (key_of op ≡ Some n) × (lends_buffer op ≡ lends)
-Tells n lends (polls.Lost k) answer = ⊥
+abbrev pub Tells : ℕ → Reply → OpPoll → JobPoll → Type 0
+Tells n reply (polls.Ready done) (Ready outcome) = outcome ≡ outcome_polled reply done
+Tells n reply (polls.Ready done) (Pending op) = ⊥
+Tells n reply (polls.Pending k) (Ready outcome) = ⊥
+Tells n reply (polls.Pending k) (Pending op) = (key_of op ≡ Some n) × (reply_of op ≡ reply)
+Tells n reply (polls.Lost k) answer = ⊥
 
 -- A job's operation was polled, and the rings are as they were.
-pub record IsPolled {R : Type 0} (lists : R → Option Lists) (room waiting : R → ℕ) (n : ℕ) (lends : Bool) (before after : R) (ops ops' : Ops) (answer : JobPoll) : Type 0 where
+pub record IsPolled {R : Type 0} (lists : R → Option Lists) (room waiting : R → ℕ) (n : ℕ) (reply : Reply) (before after : R) (ops ops' : Ops) (answer : JobPoll) : Type 0 where
   pub told : lists after ≡ lists before
   pub places : room after ≡ room before
   pub seen : waiting after ≡ waiting before
   pub operations : ops' ≡ taken_out n ops
-  pub tells : Tells n lends (polled ops n) answer
+  pub tells : Tells n reply (polled ops n) answer
 
--- The engine knows it, and where it lent a buffer and is resolved, a buffer came back.
+-- The engine knows it, and where it is resolved, a buffer came back exactly where it lent one.
 pub record CanBePolled (ops : Ops) (n : ℕ) (op : JobOp) : Type 0 where
   pub key : key_of op ≡ Some n
   pub known : knows ops n ≡ true
-  pub brings : IfSome (done_at ops n) (λ done. lends_buffer op ≡ true → is_some done.buf ≡ true)
+  pub brings : IfSome (done_at ops n) (λ done. lends (reply_of op) ≡ is_some done.buf)

@@ -13,6 +13,7 @@ ghost use Rattle.uring_run.specs.Driven.{Driven, IsGivenUp};
 ghost use Rattle.uring_run.specs.Slots.{count_open, slots_from};
 ghost use Rattle.uring_run.specs.Flights.{IsSettled};
 
+use crate::laws::model_laws;
 use crate::offers::Offers;
 use crate::round::round;
 use crate::table::Table;
@@ -56,6 +57,7 @@ pub fn drive<R: UserEnds + PartnerSide, P: Partner>(
     ensures calm { IfSome (P.state partner.old) (λ _. P.plan partner.old ≡ [] → P.faults partner.new ≡ P.faults partner.old) }
     ensures unstalled { IfSome (P.state partner.old) (λ a. IsIdle a → IfErr result (λ e. is_stall e ≡ false)) }
 {
+    model_laws();
     let mut quiet = 0;
     'rounds: while !table.is_whole() {
         let fin = round(alloc, engine, partner, todo, table)?;

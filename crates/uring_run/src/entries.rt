@@ -4,15 +4,17 @@ ghost use Rattle.std.specs.Prelude.{◌≡◌, ◌≤◌, ◌<◌, ◌^◌, IfNo
 ghost use Rattle.uring_model.specs.Jobs.{asked, is_valid_job, is_valid_at};
 ghost use Rattle.uring_run.specs.Entries.{AllValid, IsInRange, AllInRange, first_bad, unlinked_if};
 
+use crate::slot::Reply;
 use uring_entry::squeue::Entry;
 use uring_entry::{Buf, Loan};
 use uring_model::{Job, JobKind, Link};
 
-/// What is offered for a job: its entry, with its loan.
+/// What is offered for a job: its entry, with its loan, and what its outcome will tell.
 #[derive(Drop)]
 pub struct Offer {
     pub entry: Entry,
     pub loan: Option<Loan>,
+    pub reply: Reply,
 }
 
 /// The largest position and length, and the largest count that a result can tell.

@@ -1,7 +1,7 @@
 //! A job's operation.
 
 use rent_engine::OpKey;
-use rent_fs::{ReadAt, WriteAt};
+use rent_fs::{ReadAt, Sync, WriteAt};
 use uring_model::Outcome;
 
 /// A job's operation, from its start until its result is given.
@@ -9,7 +9,7 @@ use uring_model::Outcome;
 pub enum JobOp {
     Read(ReadAt),
     Write(WriteAt),
-    /// It lends no buffer.
+    Sync(Sync),
     Plain(OpKey),
 }
 

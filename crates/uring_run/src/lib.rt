@@ -6,6 +6,7 @@ mod drive;
 mod entries;
 mod flights;
 mod job_op;
+mod laws;
 mod offers;
 mod polls;
 mod round;

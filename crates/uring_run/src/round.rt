@@ -7,7 +7,7 @@ ghost use Rattle.uring_ring.specs.Lists.{Lists, Becomes, small};
 ghost use Rattle.uring_run.specs.Rounds.{pushed_more, IsCalm, Round, engine_fault, is_partner_fault};
 ghost use Rattle.uring_model.specs.Jobs.{asked, is_valid_job};
 ghost use Rattle.uring_run.specs.Entries.{all_taken, entry_of, loan_of, offer_of};
-ghost use Rattle.uring_run.specs.Flights.{IsAhead, IsSettled, AreOperated, AreLent, NoneResolved, jobs_of};
+ghost use Rattle.uring_run.specs.Flights.{IsAhead, IsSettled, AreOperated, AreReplied, NoneResolved, jobs_of};
 
 use crate::offers::{Due, Offers};
 use crate::starts::start_job;
@@ -26,7 +26,7 @@ fn start<R: UserEnds>(
     table: &mut Table,
 ) -> Result<(), RunFault>
     requires operated { AreOperated engine.old.ops table.old.started table.old.slots.items (jobs_of table.old.in_flight.items) }
-    requires lent { AreLent table.old.slots.items table.old.in_flight.items }
+    requires replied { AreReplied table.old.slots.items table.old.in_flight.items }
     requires none { NoneResolved engine.old.ops }
     requires valid { is_valid_job (asked next.job) ≡ true }
     requires ahead { IsAhead table.old.started table.old.slots.items (offer_of next.number next.job) }
@@ -36,7 +36,7 @@ fn start<R: UserEnds>(
     ensures room { OnOk result (R.room engine.old.ring ≡ R.room engine.new.ring + 1) }
     ensures waiting { OnOk result (R.waiting engine.new.ring ≡ R.waiting engine.old.ring) }
     ensures operated { OnOk result (AreOperated engine.new.ops table.new.started table.new.slots.items (jobs_of table.new.in_flight.items)) }
-    ensures lent { OnOk result (AreLent table.new.slots.items table.new.in_flight.items) }
+    ensures replied { OnOk result (AreReplied table.new.slots.items table.new.in_flight.items) }
     ensures none { OnOk result (NoneResolved engine.new.ops) }
     ensures started { OnOk result (table.new.started ≡ table.old.started + 1) }
     ensures slots { table.new.slots.items ≡ table.old.slots.items }

@@ -14,6 +14,7 @@ ghost use Rattle.uring_run.specs.Runs.{RunSays, IsValidRun, refusal};
 
 use crate::drive::drive;
 use crate::entries::first_bad_job;
+use crate::laws::model_laws;
 use crate::offers::Offers;
 use crate::slot::Slot;
 use crate::table::Table;
@@ -83,6 +84,7 @@ fn run_over<R: UserEnds + PartnerSide + Drop, P: Partner>(
     ensures calm { IfSome (P.state partner.old) (λ _. P.plan partner.old ≡ [] → P.faults partner.new ≡ P.faults partner.old) }
     ensures run_fault { IfErr result (λ e. is_refusal e ≡ false) }
 {
+    model_laws();
     let start = partner.log_len();
     let Ok(mut table) = Table::new(alloc, &jobs) else {
         return Err(RunFault::NoMemory);
@@ -139,6 +141,7 @@ pub fn run_jobs<P: Partner>(
     if let Some(job) = first_bad_job(&jobs) {
         return Err(RunFault::BadJob(job));
     }
+    model_laws();
     let Ok(ring) = ring_of(alloc, sq, cq, start) else {
         return Err(RunFault::NoMemory);
     };

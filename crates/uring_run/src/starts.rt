@@ -2,9 +2,6 @@
 
 ghost use Rattle.std.specs.Prelude.{◌≡◌, ◌+◌, ◌<◌, ◌≤◌, ◌^◌, ◌∷◌, [], ℕ, Some, None, is_some, true, false, IfOk, IfErr, OnOk, length};
 ghost use Rattle.uring_entry.specs.FlagBits.{bits_in};
-ghost use Rattle.uring_entry.specs.declared.types.Target.TheVariants.{Fixed as registered};
-ghost use Rattle.uring_entry.specs.Words.{blank};
-ghost use Rattle.uring_entry.specs.Targets.{on};
 ghost use Rattle.uring_model.specs.declared.jobs.JobKind.{JobKind};
 ghost use Rattle.uring_model.specs.Jobs.{asked, is_valid_job, is_valid_at};
 ghost use Rattle.uring_ring.specs.Lists.{Becomes, small};
@@ -12,6 +9,8 @@ ghost use Rattle.rent_engine.specs.Ops.{knows, started};
 ghost use Rattle.uring_run.specs.Entries.{words_of, loan_of, entry_of, offer_of};
 ghost use Rattle.uring_run.specs.Rounds.{pushed_more};
 ghost use Rattle.uring_run.specs.Steps.{mark_bits, IsBegun};
+ghost use Rattle.uring_run.specs.Told.{reply_for};
+ghost use Rattle.uring_run.specs.declared.slot.Reply.TheVariants as replies;
 
 use crate::job_op::JobOp;
 use bitflags::Flags as _;
@@ -20,9 +19,9 @@ use rent_fs::File;
 use std::alloc::Global;
 use uring_entry::Buf;
 use uring_entry::squeue::{Entry, Flags};
-use uring_entry::types::{Fixed, UseTarget};
+use uring_entry::types::Fixed;
 use uring_model::{Job, JobKind, Link, RunFault};
-use uring_ops_file::Nop;
+use uring_ops_file::{AsyncCancel, Ftruncate, Nop};
 use uring_ring::UserEnds;
 
 /// The flags of a job's marks.
@@ -41,32 +40,17 @@ fn marks(drain: bool, link: Link) -> Flags
     }
 }
 
-/// The words of a job that lends no buffer.
+/// The words of a job that the engine itself starts.
 fn plain_words(kind: JobKind) -> Entry
-    requires { loan_of 0 kind ≡ None }
+    requires { reply_for kind ≡ replies.Plain }
     ensures { (number : ℕ) → result ≡ words_of number kind }
 {
     match kind {
         JobKind::Nop => Nop::new().build(),
-        JobKind::Read { .. } | JobKind::Write { .. } => unreachable!(),
-        JobKind::Fsync { file } => on_file(3, file, 0),
-        JobKind::Ftruncate { file, len } => on_file(55, file, len),
-        JobKind::Cancel { job } => Entry {
-            fd: -1,
-            addr: job,
-            ..Entry::blank(14)
-        },
+        JobKind::Ftruncate { file, len } => Ftruncate::new(Fixed(file), len).build(),
+        JobKind::Cancel { job } => AsyncCancel::new(job).build(),
+        JobKind::Read { .. } | JobKind::Write { .. } | JobKind::Fsync { .. } => unreachable!(),
     }
-}
-
-fn on_file(opcode: u8, file: u32, off: u64) -> Entry
-    ensures { result ≡ on (registered file) (record (blank opcode) { off = off }) }
-{
-    let words = Entry {
-        off,
-        ..Entry::blank(opcode)
-    };
-    words.on(Fixed(file).target())
 }
 
 fn start_read<R: UserEnds>(
@@ -115,6 +99,26 @@ fn start_write<R: UserEnds>(
     }
 }
 
+fn start_sync<R: UserEnds>(
+    alloc: Global,
+    engine: &mut Engine<R>,
+    number: u64,
+    file: u32,
+    marks: Flags,
+) -> Result<JobOp, RunFault>
+    requires unknown { knows engine.old.ops number ≡ false }
+    requires room { 0 < R.room engine.old.ring }
+    ensures begun { IfOk result (λ op. IsBegun R.lists R.room R.waiting number (JobKind.Fsync file) (bits_in marks) engine.old.ring engine.new.ring engine.old.ops engine.new.ops op) }
+    ensures memory { IfErr result (λ e. e ≡ RunFault.NoMemory) }
+{
+    let sync = File::of_number(file).sync_all();
+    let mut sync = sync.with_number(number).with_flags(marks);
+    match sync.poll(alloc, engine) {
+        Poll::Pending => Ok(JobOp::Sync(sync)),
+        Poll::Ready(_) => Err(RunFault::NoMemory),
+    }
+}
+
 fn start_plain<R: UserEnds>(
     alloc: Global,
     engine: &mut Engine<R>,
@@ -124,7 +128,7 @@ fn start_plain<R: UserEnds>(
 ) -> Result<JobOp, RunFault>
     requires unknown { knows engine.old.ops number ≡ false }
     requires room { 0 < R.room engine.old.ring }
-    requires plain { loan_of 0 kind ≡ None }
+    requires plain { reply_for kind ≡ replies.Plain }
     ensures begun { IfOk result (λ op. IsBegun R.lists R.room R.waiting number kind (bits_in marks) engine.old.ring engine.new.ring engine.old.ops engine.new.ops op) }
     ensures memory { IfErr result (λ e. e ≡ RunFault.NoMemory) }
 {
@@ -138,8 +142,8 @@ fn start_plain<R: UserEnds>(
     }
 }
 
-/// Starts a job's operation under a number: a read or a write as a state that is polled once, and
-/// another as its entry.
+/// Starts a job's operation under a number: a read, a write or a sync as a state of its file that
+/// is polled once, and another as its entry.
 pub fn start_job<R: UserEnds>(
     alloc: Global,
     engine: &mut Engine<R>,
@@ -160,6 +164,7 @@ pub fn start_job<R: UserEnds>(
         JobKind::Write { file, offset, buf } => {
             start_write(alloc, engine, number, file, offset, buf, marks)
         }
+        JobKind::Fsync { file } => start_sync(alloc, engine, number, file, marks),
         kind => start_plain(alloc, engine, number, kind, marks),
     }
 }

@@ -2,16 +2,15 @@
 
 ghost use Rattle.std.specs.Prelude.{◌≡◌, ◌≤◌, IfOk, vec_len};
 ghost use Rattle.uring_run.specs.Slots.{count_open, opened, open_slots};
-ghost use Rattle.uring_model.specs.Jobs.{moves_bytes, op_asked};
 
 use crate::flights::InFlight;
 use crate::job_op::{JobOp, JobPoll};
 use crate::polls::poll_job;
-use crate::slot::Slot;
+use crate::slot::{Slot, reply_for};
 use rent_engine::Engine;
 use std::alloc::{AllocError, Global};
 use std::collections::VecDeque;
-use uring_model::{Job, JobKind, Outcome};
+use uring_model::{Job, Outcome};
 use uring_ring::UserEnds;
 
 /// A slot for each job. The first `started` jobs are started, `unfinished` have no outcome, and
@@ -27,12 +26,13 @@ pub struct Table {
 }
 
 impl Table {
-    ghost use Rattle.std.specs.Prelude.{◌≡◌, ◌+◌, ◌<◌, ◌↔◌, ◌++◌, ◌∷◌, [], IsTrue, IfOk, OnOk, IfSome, Bool, Some, ℕ, map, slice_get, slice_set};
+    ghost use Rattle.std.specs.Prelude.{◌≡◌, ◌+◌, ◌<◌, ◌↔◌, ◌++◌, ◌∷◌, [], IsTrue, IfOk, OnOk, IfSome, Some, ℕ, map, slice_get, slice_set};
     ghost use Rattle.std.specs.List.{AllByRecursion};
     ghost use Rattle.rent_engine.specs.Ops.{done_at, polled, taken_out};
     ghost use Rattle.uring_run.specs.Slots.{open_slots};
-    ghost use Rattle.uring_run.specs.Flights.{IsOpen, AreOperated, NoneResolved, all_polled, with_polled, left_by, jobs_of, AreLent};
-    ghost use Rattle.uring_run.specs.JobOps.{key_of, lends_buffer};
+    ghost use Rattle.uring_run.specs.Flights.{AreOperated, NoneResolved, all_polled, with_polled, left_by, jobs_of, AreReplied};
+    ghost use Rattle.uring_run.specs.JobOps.{key_of, reply_of};
+    ghost use Rattle.uring_run.specs.declared.slot.Reply.{Reply};
     ghost use Rattle.uring_run.specs.Steps.{CanBePolled};
 
     /// A table of open slots.
@@ -66,7 +66,7 @@ impl Table {
         while let Some(slot) = left.pop_front() {
             match slot {
                 Slot::Done(outcome) => outcomes.push(outcome)?,
-                Slot::Open { .. } => unreachable!(),
+                Slot::Open(_) => unreachable!(),
             }
         }
         Ok(outcomes)
@@ -79,7 +79,7 @@ impl Table {
         ensures started { OnOk result (self.new.started ≡ self.old.started + 1) }
         ensures slots { self.new.slots.items ≡ self.old.slots.items }
         ensures in_flight { OnOk result (jobs_of self.new.in_flight.items ≡ jobs_of self.old.in_flight.items ++ self.old.started ∷ []) }
-        ensures lent { AreLent self.old.slots.items self.old.in_flight.items → slice_get self.old.slots.items self.old.started ≡ Some (Slot.Open (lends_buffer op)) → OnOk result (AreLent self.new.slots.items self.new.in_flight.items) }
+        ensures replied { AreReplied self.old.slots.items self.old.in_flight.items → slice_get self.old.slots.items self.old.started ≡ Some (Slot.Open (reply_of op)) → OnOk result (AreReplied self.new.slots.items self.new.in_flight.items) }
     {
         let job = self.started;
         self.in_flight.push_back(InFlight { job, op })?;
@@ -88,7 +88,7 @@ impl Table {
     }
 
     fn finish(&mut self, place: usize, outcome: Outcome)
-        requires { (lends : Bool) × (slice_get self.old.slots.items place ≡ Some (Slot.Open lends)) }
+        requires { (reply : Reply) × (slice_get self.old.slots.items place ≡ Some (Slot.Open reply)) }
         ensures slots { self.new.slots.items ≡ slice_set self.old.slots.items place (Slot.Done outcome) }
         ensures started { self.new.started ≡ self.old.started }
         ensures in_flight { self.new.in_flight.items ≡ self.old.in_flight.items }
@@ -106,14 +106,14 @@ impl Table {
         flight: InFlight,
     ) -> Result<(), AllocError>
         requires polls { CanBePolled engine.old.ops flight.job flight.op }
-        requires resolved { IfSome (done_at engine.old.ops flight.job) (λ _. IsOpen self.old.slots.items flight.job) }
+        requires resolved { IfSome (done_at engine.old.ops flight.job) (λ _. slice_get self.old.slots.items flight.job ≡ Some (Slot.Open (reply_of flight.op))) }
         ensures lists { R.lists engine.new.ring ≡ R.lists engine.old.ring }
         ensures room { R.room engine.new.ring ≡ R.room engine.old.ring }
         ensures ops { engine.new.ops ≡ taken_out flight.job engine.old.ops }
-        ensures slots { self.new.slots.items ≡ with_polled flight.job (polled engine.old.ops flight.job) self.old.slots.items }
+        ensures slots { self.new.slots.items ≡ with_polled (reply_of flight.op) flight.job (polled engine.old.ops flight.job) self.old.slots.items }
         ensures started { self.new.started ≡ self.old.started }
         ensures in_flight { OnOk result (jobs_of self.new.in_flight.items ≡ jobs_of self.old.in_flight.items ++ left_by (polled engine.old.ops flight.job) flight.job) }
-        ensures lent { (lends : ℕ → Bool) → AllByRecursion (λ f. lends_buffer f.op ≡ lends f.job) self.old.in_flight.items → lends_buffer flight.op ≡ lends flight.job → OnOk result (AllByRecursion (λ f. lends_buffer f.op ≡ lends f.job) self.new.in_flight.items) }
+        ensures replied { (replies : ℕ → Reply) → AllByRecursion (λ f. reply_of f.op ≡ replies f.job) self.old.in_flight.items → reply_of flight.op ≡ replies flight.job → OnOk result (AllByRecursion (λ f. reply_of f.op ≡ replies f.job) self.new.in_flight.items) }
     {
         let InFlight { job, op } = flight;
         match poll_job(alloc, engine, op) {
@@ -130,13 +130,13 @@ impl Table {
         engine: &mut Engine<R>,
     ) -> Result<(), AllocError>
         requires operated { AreOperated engine.old.ops self.old.started self.old.slots.items (jobs_of self.old.in_flight.items) }
-        requires lent { AreLent self.old.slots.items self.old.in_flight.items }
+        requires replied { AreReplied self.old.slots.items self.old.in_flight.items }
         ensures lists { R.lists engine.new.ring ≡ R.lists engine.old.ring }
         ensures room { R.room engine.new.ring ≡ R.room engine.old.ring }
         ensures started { self.new.started ≡ self.old.started }
         ensures slots { OnOk result (self.new.slots.items ≡ all_polled engine.old.ops self.old.slots.items) }
         ensures operated { OnOk result (AreOperated engine.new.ops self.new.started self.new.slots.items (jobs_of self.new.in_flight.items)) }
-        ensures lent { OnOk result (AreLent self.new.slots.items self.new.in_flight.items) }
+        ensures replied { OnOk result (AreReplied self.new.slots.items self.new.in_flight.items) }
         ensures none { OnOk result (NoneResolved engine.new.ops) }
     {
         let mut left = self.in_flight.len();
@@ -151,18 +151,10 @@ impl Table {
     }
 }
 
-fn moves_buffer(kind: &JobKind) -> bool
-    ensures { result ≡ moves_bytes (op_asked kind.now) }
-{
-    matches!(kind, JobKind::Read { .. } | JobKind::Write { .. })
-}
-
 fn open_slot(job: &Job) -> Slot
     ensures { result ≡ opened job.now }
 {
-    Slot::Open {
-        lends: moves_buffer(&job.kind),
-    }
+    Slot::Open(reply_for(&job.kind))
 }
 
 fn all_open(alloc: Global, jobs: &[Job]) -> Result<Vec<Slot>, AllocError>

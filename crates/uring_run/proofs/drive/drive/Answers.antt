@@ -30,7 +30,7 @@ rounds-init g c =
     let slots = c.requires.slots in
     let size = subst (λ o. IfSome o (λ l. (g.R.UserEnds.entries_fit c.args.engine.now.ring ≡ l.capacity) × (g.R.UserEnds.completions_fit c.args.engine.now.ring ≡ l.completion_capacity))) e.1 (g.met.R.UserEnds.sizes c.args.engine.now.ring) in
     let count : length c.args.table.now.slots.items ≡ length c.args.todo.now = ap length slots.0 ∙ slots-length 0 c.args.todo.now [] in (
-      running_first _ _ _ _ _ _ _ _ _ c.args.todo.now _ _ e.0 e.1 e.2 e.3 (sym size.0) refl slots.0 slots.1 (subst (λ k. 0 < k) size.0 h.0, subst (λ k. 0 < k) size.1 h.1),
+      running_first _ _ _ _ _ _ _ _ _ c.args.todo.now _ _ c.model_laws.ensures e.0 e.1 e.2 e.3 (sym size.0) refl slots.0 slots.1 (subst (λ k. 0 < k) size.0 h.0, subst (λ k. 0 < k) size.1 h.1),
       c.requires.idle,
       omega (arith, count, slots.1),
       omega arith,
@@ -55,7 +55,7 @@ returns-in_err-fin-clause-run g c =
     let left = some_open _ _ c.is_whole.ensures.1 c.rounds-test.true in
     let n : (r : Driven g.P.Partner.log g.P.Partner.state c.args.partner.now c.round.new.partner c.args.todo.now (g.R.UserEnds.entries_fit c.args.engine.now.ring) c.args.idle) × IsGivenUp c.args.todo.now c.args.idle (log_of r.moves) c.in_err-fin.field-0.0 = elim d.err [
       | inl h ↦ unserved _ _ _ _ _ _ _ _ _ _ _ c.args.todo.now _ _ _ _ s.0 left s.1 h
-      | inr h ↦ next_faulted _ _ _ _ _ _ _ _ _ _ _ _ _ _ _ _ c.args.todo.now _ _ _ _ (next_of _ _ _ _ _ _ _ _ _ _ _ _ _ _ _ _ c.args.todo.now _ _ _ _ s.0 h.0 g.R.Rings.keeps h.1 left s.1)
+      | inr h ↦ next_faulted _ _ _ _ _ _ _ _ _ _ _ _ _ _ _ _ c.args.todo.now _ _ _ _ (next_of _ _ _ _ _ _ _ _ _ _ _ _ _ _ _ _ c.args.todo.now _ _ _ _ c.model_laws.ensures s.0 h.0 g.R.Rings.keeps h.1 left s.1)
     ] in
     (n.0, rw p.1 (subst (λ e. IsGivenUp c.args.todo.now c.args.idle (log_of n.0.moves) e) (sym p.2) n.1))
 
@@ -68,7 +68,7 @@ pub returns-then-quiet-idle-clause-run : goal.returns-then-quiet-idle-clause-run
 returns-then-quiet-idle-clause-run g c =
     let s = c.rounds.invariant in
     let d = c.in_ok-fin.ensures in
-    let x = next_of _ _ _ _ _ _ _ _ _ _ _ _ _ _ _ _ c.args.todo.now _ _ _ _ s.0 d.round g.R.Rings.keeps d.inside (some_open _ _ c.is_whole.ensures.1 c.rounds-test.true) s.1 in
+    let x = next_of _ _ _ _ _ _ _ _ _ _ _ _ _ _ _ _ c.args.todo.now _ _ _ _ c.model_laws.ensures s.0 d.round g.R.Rings.keeps d.inside (some_open _ _ c.is_whole.ensures.1 c.rounds-test.true) s.1 in
     let y = running_next _ _ _ _ _ _ _ _ _ _ _ _ _ _ _ _ c.args.todo.now _ _ _ _ _ c.quiet_after-quiet.result x d.calm c.quiet_after-quiet.ensures in
     let e = stalled_end _ _ _ _ _ _ _ _ _ _ c.args.todo.now _ _ _ y c.if-quiet-idle.true (left_open _ _ _ y.resting c.if-quiet-idle.true c.requires.idle) in
     (running_ran _ _ _ _ _ _ _ _ _ _ c.args.todo.now _ _ _ y e.0, e.1)
@@ -77,7 +77,7 @@ pub returns-then-quiet-idle-clause-unstalled : goal.returns-then-quiet-idle-clau
 returns-then-quiet-idle-clause-unstalled g c =
     let s = c.rounds.invariant in
     let d = c.in_ok-fin.ensures in
-    let x = next_of _ _ _ _ _ _ _ _ _ _ _ _ _ _ _ _ c.args.todo.now _ _ _ _ s.0 d.round g.R.Rings.keeps d.inside (some_open _ _ c.is_whole.ensures.1 c.rounds-test.true) s.1 in
+    let x = next_of _ _ _ _ _ _ _ _ _ _ _ _ _ _ _ _ c.args.todo.now _ _ _ _ c.model_laws.ensures s.0 d.round g.R.Rings.keeps d.inside (some_open _ _ c.is_whole.ensures.1 c.rounds-test.true) s.1 in
     let y = running_next _ _ _ _ _ _ _ _ _ _ _ _ _ _ _ _ c.args.todo.now _ _ _ _ _ c.quiet_after-quiet.result x d.calm c.quiet_after-quiet.ensures in
     if_some (g.P.Partner.state c.args.partner.now) (λ a. IsIdle a → true ≡ false) (λ a told idle. absurd (omega (arith, (y.prompt a told idle).0, c.if-quiet-idle.true, c.requires.idle)))
 
@@ -85,14 +85,14 @@ pub rounds-smaller : goal.rounds-smaller
 rounds-smaller g c =
     let s = c.rounds.invariant in
     let d = c.in_ok-fin.ensures in
-    let x = next_of _ _ _ _ _ _ _ _ _ _ _ _ _ _ _ _ c.args.todo.now _ _ _ _ s.0 d.round g.R.Rings.keeps d.inside (some_open _ _ c.is_whole.ensures.1 c.rounds-test.true) s.1 in
+    let x = next_of _ _ _ _ _ _ _ _ _ _ _ _ _ _ _ _ c.args.todo.now _ _ _ _ c.model_laws.ensures s.0 d.round g.R.Rings.keeps d.inside (some_open _ _ c.is_whole.ensures.1 c.rounds-test.true) s.1 in
     smaller c.in_ok-fin.fin _ _ _ _ _ (next_count _ _ _ _ _ _ _ _ _ _ _ _ _ _ _ _ c.args.todo.now _ _ _ _ x) c.quiet_after-quiet.ensures (omega (arith, s.1))
 
 pub rounds-preserved : goal.rounds-preserved
 rounds-preserved g c =
     let s = c.rounds.invariant in
     let d = c.in_ok-fin.ensures in
-    let x = next_of _ _ _ _ _ _ _ _ _ _ _ _ _ _ _ _ c.args.todo.now _ _ _ _ s.0 d.round g.R.Rings.keeps d.inside (some_open _ _ c.is_whole.ensures.1 c.rounds-test.true) s.1 in
+    let x = next_of _ _ _ _ _ _ _ _ _ _ _ _ _ _ _ _ c.args.todo.now _ _ _ _ c.model_laws.ensures s.0 d.round g.R.Rings.keeps d.inside (some_open _ _ c.is_whole.ensures.1 c.rounds-test.true) s.1 in
     let y = running_next _ _ _ _ _ _ _ _ _ _ _ _ _ _ _ _ c.args.todo.now _ _ _ _ _ c.quiet_after-quiet.result x d.calm c.quiet_after-quiet.ensures in
     let before = slots_stay _ _ _ _ _ _ _ _ _ _ c.args.todo.now _ _ _ s.0 in
     let after = slots_stay _ _ _ _ _ _ _ _ _ _ c.args.todo.now _ _ _ y in (

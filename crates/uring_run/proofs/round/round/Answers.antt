@@ -79,7 +79,7 @@ returns-clause-settled g c =
     let ok = sym c.if-is_err.ensures.value in
     record {
       operated = once_ok c.poll_all.result _ ok c.poll_all.ensures.operated;
-      lent = once_ok c.poll_all.result _ ok c.poll_all.ensures.lent;
+      replied = once_ok c.poll_all.result _ ok c.poll_all.ensures.replied;
       none = once_ok c.poll_all.result _ ok c.poll_all.ensures.none;
       ahead =
           subst (λ n. AreAhead n c.poll_all.new.self.slots.items c.start_some.new.todo) (sym c.poll_all.ensures.started)

@@ -1,6 +1,7 @@
-use Rattle.std.proofs.Common.{is_some, ap, ◌∙◌}
+use Rattle.std.proofs.Common.{ap, ◌∙◌}
 use Rattle.rent_engine.specs.Ops.{started}
-use Rattle.uring_run.specs.Entries.{loan_of, offer_of}
+use Rattle.uring_run.specs.Entries.{offer_of}
+use Rattle.uring_run.specs.Told.{reply_for, lends}
 use Rattle.uring_run.specs.Flights.{jobs_of}
 use Rattle.uring_run.proofs.StartLemmas.{started_next}
 use Rattle.uring_run.proofs.round.start.Goals as goal
@@ -10,4 +11,4 @@ returns-in-Ok-clause-operated g c =
     let d = c.in-Ok.ensures in
     (started_next c.args.engine.now.ops c.args.table.now.started c.args.table.now.slots.items (jobs_of c.args.table.now.in_flight.items) (offer_of c.args.next.number c.args.next.job) c.requires.operated c.requires.none c.requires.ahead
     c.start_job.new.engine.ops c.start.new.self.started c.start.new.self.slots.items (jobs_of c.start.new.self.in_flight.items)
-    (c.in_ok-op.ensures.begun.operations ∙ ap (λ n. started n (is_some (loan_of c.args.next.number c.args.next.job.kind)) c.args.engine.now.ops) c.requires.ahead.number) d.started d.slots d.in_flight).0
+    (c.in_ok-op.ensures.begun.operations ∙ ap (λ n. started n (lends (reply_for c.args.next.job.kind)) c.args.engine.now.ops) c.requires.ahead.number) d.started d.slots d.in_flight).0

@@ -21,7 +21,7 @@ starts-preserved g c =
       d.waiting ∙ s.7,
       record {
         operated = d.operated;
-        lent = d.lent;
+        replied = d.replied;
         none = d.none;
         ahead = ahead_next _ _ _ _ _ _ _ s.8.ahead c.in-Some.ensures.front d.started d.slots;
       },

@@ -8,8 +8,8 @@ use Rattle.uring_run.proofs.run.run_jobs.Goals as goal
 
 pub returns-in_default-ring_of-clause-run : goal.returns-in_default-ring_of-clause-run
 returns-in_default-ring_of-clause-run g c = λ v.
-    says_fault _ _ _ _ c.args.jobs.items (rounded_up c.args.sq) _ faults.NoMemory (subst AllValid c.deref.ensures.value c.in_default.ensures.none) (subst AllInRange c.deref.ensures.value c.in_default.ensures.in_range)
-    (not_driven g.P.Partner.log g.P.Partner.state c.args.partner.now c.args.jobs.items (rounded_up c.args.sq) c.args.idle) tt (not_stalled _)
+    says_fault c.model_laws.ensures _ _ _ _ c.args.jobs.items (rounded_up c.args.sq) _ faults.NoMemory (subst AllValid c.deref.ensures.value c.in_default.ensures.none) (subst AllInRange c.deref.ensures.value c.in_default.ensures.in_range)
+    (not_driven c.model_laws.ensures g.P.Partner.log g.P.Partner.state c.args.partner.now c.args.jobs.items (rounded_up c.args.sq) c.args.idle) tt (not_stalled _)
 
 pub run_over-requires-clause-empty : goal.run_over-requires-clause-empty
 run_over-requires-clause-empty g c = opened_calm c.in-Ok.ring _ _ _ c.in-Ok.ensures.ok

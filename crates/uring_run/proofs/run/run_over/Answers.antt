@@ -12,7 +12,7 @@ use Rattle.uring_run.proofs.run.run_over.Goals as goal
 
 pub returns-in_default-clause-says : goal.returns-in_default-clause-says
 returns-in_default-clause-says g c =
-    says_fault _ _ _ _ c.args.jobs.items _ _ faults.NoMemory c.requires.valid c.requires.in_range (not_driven g.P.Partner.log g.P.Partner.state c.args.partner.now c.args.jobs.items (g.R.UserEnds.entries_fit c.args.ring) c.args.idle) tt (not_stalled _)
+    says_fault c.model_laws.ensures _ _ _ _ c.args.jobs.items _ _ faults.NoMemory c.requires.valid c.requires.in_range (not_driven c.model_laws.ensures g.P.Partner.log g.P.Partner.state c.args.partner.now c.args.jobs.items (g.R.UserEnds.entries_fit c.args.ring) c.args.idle) tt (not_stalled _)
 
 pub drive-requires-clause-slots : goal.drive-requires-clause-slots
 drive-requires-clause-slots g c =
@@ -29,11 +29,11 @@ returns-in_err-drive-clause-says g c =
     let run = subst (λ o. (r : Driven g.P.Partner.log g.P.Partner.state c.args.partner.now c.drive.new.partner o (g.R.UserEnds.entries_fit c.args.ring) c.args.idle) × IsGivenUp o c.args.idle (log_of r.moves) c.in_err-drive.field-0.0) c.new-todo.ensures
     (subst (λ x. (r : Driven g.P.Partner.log g.P.Partner.state c.args.partner.now c.drive.new.partner c.new-todo.result (g.R.UserEnds.entries_fit x) c.args.idle) × IsGivenUp c.new-todo.result c.args.idle (log_of r.moves) c.in_err-drive.field-0.0) c.new-engine.ensures.ring d.run) in
     rw p.1 (subst (λ e. RunSays g.P.Partner.log g.P.Partner.state c.args.partner.now c.drive.new.partner c.args.jobs.items (g.R.UserEnds.entries_fit c.args.ring) c.args.idle (Err e)) (sym p.2)
-    (says_fault _ _ _ _ c.args.jobs.items _ _ c.in_err-drive.field-0.0 c.requires.valid c.requires.in_range run.0 run.1 d.unstalled))
+    (says_fault c.model_laws.ensures _ _ _ _ c.args.jobs.items _ _ c.in_err-drive.field-0.0 c.requires.valid c.requires.in_range run.0 run.1 d.unstalled))
 
 pub returns-clause-says : goal.returns-clause-says
 returns-clause-says g c =
     let d = c.in_ok-drive.ensures in
     let r = c.report_of.ensures in
     subst (λ x. RunSays g.P.Partner.log g.P.Partner.state c.args.partner.now c.drive.new.partner c.args.jobs.items (g.R.UserEnds.entries_fit x) c.args.idle c.report_of.result) c.new-engine.ensures.ring
-    (says_either _ _ _ _ c.args.jobs.items _ _ c.log_len-start.result c.drive.new.table.slots.items _ c.report_of.result c.requires.valid c.requires.in_range c.new-todo.ensures d.run r.outcomes r.journal r.err (gain_at _ _ _ c.log_len-start.ensures (g.met.P.Partner.counts_log c.args.partner.now)))
+    (says_either c.model_laws.ensures _ _ _ _ c.args.jobs.items _ _ c.log_len-start.result c.drive.new.table.slots.items _ c.report_of.result c.requires.valid c.requires.in_range c.new-todo.ensures d.run r.outcomes r.journal r.err (gain_at _ _ _ c.log_len-start.ensures (g.met.P.Partner.counts_log c.args.partner.now)))

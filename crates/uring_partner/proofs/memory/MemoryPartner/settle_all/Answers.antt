@@ -68,5 +68,5 @@ returns g c =
     let e = settled_as _ c.args.self.now c.loop-alloc.self _ _ s.0 (settle_turn (length s.0) a) now s.1 in
     let w = g.met.Q.PartnerSide.moved_told _ _ _ _ s.1.sides in
     let r = room_used_by _ _ _ s.0 w (g.Q.Rings.fits c.loop-alloc.side) in
-    let none = none_left c.loop-alloc.self.pending.items (omega (arith, zero_if _ (sym c.is_empty.ensures ∙ c.loop-alloc-test.false))) in
+    let none = none_left c.loop-alloc.self.pending.items.items (omega (arith, zero_if _ (sym c.is_empty.ensures ∙ c.loop-alloc-test.false))) in
     record { moves = (length s.0, e.0, e.1, all_room_from (length s.0) a _ _ now r (λ room le. runs_empty s.0 a (state_of c.loop-alloc.self) room s.2 none le)) }

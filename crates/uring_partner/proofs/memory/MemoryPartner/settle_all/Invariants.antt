@@ -11,4 +11,4 @@ abbrev pub invariant-loop-alloc : goal.invariant-loop-alloc
 invariant-loop-alloc g l = (cs : List Completion) × GoesBy g.Q.PartnerSide.moved l.fn.self l.self l.fn.side l.side (map Posted cs) × Runs cs (state_of l.fn.self) (state_of l.self)
 
 abbrev pub decreases-loop-alloc : goal.decreases-loop-alloc
-decreases-loop-alloc g l = deque_len l.self.pending
+decreases-loop-alloc g l = deque_len l.self.pending.items

@@ -2,8 +2,9 @@ use Rattle.std.proofs.Common.{◌++◌, [], refl, ap, sym, subst, ◌∙◌, ari
 use Rattle.std.proofs.lemmas.List.{length-map}
 use Rattle.rent_engine.specs.Ops.{polled}
 use Rattle.uring_run.specs.Flights.{AreOperated, jobs_of}
+use Rattle.uring_run.specs.JobOps.{reply_of}
 use Rattle.uring_run.proofs.FlightLemmas.{polled_next, all_left, none_polled, none_of}
-use Rattle.uring_run.proofs.LentLemmas.{can_poll, lent_next}
+use Rattle.uring_run.proofs.LentLemmas.{can_poll, replied_next}
 use Rattle.uring_run.proofs.table.Table.poll_all.Goals as goal
 
 pub loop-left-init : goal.loop-left-init
@@ -20,7 +21,7 @@ loop-left-init g c =
       refl,
       refl,
       refl,
-      c.requires.lent,
+      c.requires.replied,
       refl,
     )
 
@@ -38,8 +39,9 @@ pub loop-left-preserved : goal.loop-left-preserved
 loop-left-preserved g c =
     let s = c.loop-left.invariant in
     let d = c.in_ok-poll_one-in-Some.ensures in
-    let p = polled_next c.loop-left.engine.ops c.loop-left.self.started c.loop-left.self.slots.items c.in-Some.flight.job s.0 s.1 (jobs_of c.pop_front.new.self.items)
+    let p = polled_next (reply_of c.in-Some.flight.op) c.loop-left.engine.ops c.loop-left.self.started c.loop-left.self.slots.items c.in-Some.flight.job s.0 s.1 (jobs_of c.pop_front.new.self.items)
     (sym s.2 ∙ ap jobs_of c.in-Some.ensures.items) (λ z. omega (arith, s.3, z, c.loop-left-test.true)) s.4 s.5
+    (can_poll c.loop-left.engine.ops c.loop-left.self.started c.loop-left.self.slots.items c.loop-left.self.in_flight.items (s.0 ++ s.1) c.in-Some.flight c.pop_front.new.self.items s.2 c.in-Some.ensures.items s.4 s.9).1
     c.poll_one.new.engine.ops c.poll_one.new.self.started c.poll_one.new.self.slots.items (jobs_of c.poll_one.new.self.in_flight.items) d.ops d.slots d.started d.in_flight in (
       p.0,
       p.1,
@@ -50,7 +52,7 @@ loop-left-preserved g c =
       p.6 ∙ s.6,
       d.lists ∙ s.7,
       d.room ∙ s.8,
-      lent_next c.loop-left.self.slots.items c.poll_one.new.self.slots.items c.loop-left.self.in_flight.items c.in-Some.flight c.pop_front.new.self.items c.poll_one.new.self.in_flight.items (polled c.loop-left.engine.ops c.in-Some.flight.job) s.9 c.in-Some.ensures.items d.slots d.lent,
+      replied_next c.loop-left.self.slots.items c.poll_one.new.self.slots.items c.loop-left.self.in_flight.items c.in-Some.flight c.pop_front.new.self.items c.poll_one.new.self.in_flight.items (polled c.loop-left.engine.ops c.in-Some.flight.job) s.9 c.in-Some.ensures.items d.slots d.replied,
       d.started ∙ s.10,
     )
 

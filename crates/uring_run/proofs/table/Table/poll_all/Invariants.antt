@@ -1,5 +1,5 @@
 use Rattle.std.proofs.Common.{◌≡◌, ℕ, List, ◌++◌, length}
-use Rattle.uring_run.specs.Flights.{AreOperated, AreLent, all_polled, jobs_of}
+use Rattle.uring_run.specs.Flights.{AreOperated, AreReplied, all_polled, jobs_of}
 use Rattle.uring_run.proofs.FlightLemmas.{NoneLeftResolved}
 use Rattle.uring_run.proofs.table.Table.poll_all.Given as goal
 
@@ -13,7 +13,7 @@ invariant-loop-left g l =
     × (all_polled l.engine.ops l.self.slots.items ≡ all_polled l.initial.engine.ops l.initial.self.slots.items)
     × (g.R.Rings.lists l.engine.ring ≡ g.R.Rings.lists l.initial.engine.ring)
     × (g.R.UserEnds.room l.engine.ring ≡ g.R.UserEnds.room l.initial.engine.ring)
-    × AreLent l.self.slots.items l.self.in_flight.items
+    × AreReplied l.self.slots.items l.self.in_flight.items
     × (l.self.started ≡ l.initial.self.started)
 
 abbrev pub decreases-loop-left : goal.decreases-loop-left
