@@ -16,7 +16,7 @@ use Rattle.uring_text.specs.declared.status.Status.{Status}
 use Rattle.uring_text.specs.declared.status.Status.TheVariants as ends
 use Rattle.uring_cli.specs.declared.words.Options.{Options}
 use Rattle.uring_cli.specs.Ends.{IsGoodCall}
-use Rattle.uring_cli.specs.Files.{seeded}
+use Rattle.uring_cli.specs.Seeds.{seeded}
 use Rattle.uring_cli.specs.Input.{GaveScript}
 use Rattle.uring_cli.specs.Runs.{Performed, Failed, is_partner_fault}
 
@@ -42,10 +42,10 @@ nothing_refused options told valid = rw valid.size (rw valid.jobs_valid refl)
 
 -- over a partner that began idle, the run explains what it did
 explained : {P : Type 0} (log : P → Option (List LogEvent)) (state : P → Option PartnerState) (plan : P → List ℕ) (told : Told) (options : Options) (before after : P) (answer : Result Report RunFault) (a : PartnerState)
-    → (p : Performed log state plan told options before after answer) → state before ≡ Some a → IsIdle a → (b : PartnerState) × Explains (all_asked told.jobs) (seeded told.files a) p.says.ran.moves b answer
+    → (p : Performed log state plan told options before after answer) → state before ≡ Some a → IsIdle a → (b : PartnerState) × Explains (all_asked told.jobs) (seeded told.files told.choices a) p.says.ran.moves b answer
 explained log state plan told options before after answer a p tells idle =
-    let given = subst (λ s. StateBecomes s (seeded told.files) (state p.given)) tells p.files.files in
-    let m = p.says.memory (seeded told.files a) given (record { pending = idle.pending; tail = idle.tail }) in
+    let given = subst (λ s. StateBecomes s (seeded told.files told.choices) (state p.given)) tells p.seeds.gains in
+    let m = p.says.memory (seeded told.files told.choices a) given (record { pending = idle.pending; tail = idle.tail }) in
     (m.0, m.2)
 
 good_end : {P : Type 0} (log : P → Option (List LogEvent)) (state : P → Option PartnerState) (plan : P → List ℕ) (told : Told) (options : Options) (before after : P) (a : PartnerState) (status : Status)

@@ -14,7 +14,7 @@ use Rattle.uring_run.specs.Runs.{RunSays, IsValidRun, refusal}
 use Rattle.uring_text.specs.Script.{Told}
 use Rattle.uring_text.specs.Status.{status_of}
 use Rattle.uring_cli.specs.declared.words.Options.{Options}
-use Rattle.uring_cli.specs.Files.{HasFiles}
+use Rattle.uring_cli.specs.Seeds.{IsSeeded}
 use Rattle.uring_cli.specs.Runs.{Performed, Failed}
 
 -- where nothing is refused, sizes and jobs are valid
@@ -33,52 +33,52 @@ refused_as false bad fault e = cc
 
 -- a fault of the run, by what the run refuses
 failed_as : {P : Type 0} (log : P → Option (List LogEvent)) (state : P → Option PartnerState) (plan : P → List ℕ) (told : Told) (options : Options) (before given after : P) (fault : RunFault) (r : Option RunFault)
-    → HasFiles log state plan told.files before given → refusal options.sq options.cq told.jobs ≡ r → IfSome r (λ f. (◌≡◌ {A = Result Report RunFault} (Err fault) (Err f)) × (after ≡ given))
+    → IsSeeded log state plan told.files told.choices before given → refusal options.sq options.cq told.jobs ≡ r → IfSome r (λ f. (◌≡◌ {A = Result Report RunFault} (Err fault) (Err f)) × (after ≡ given))
     → (IsValidRun options.sq options.cq told.jobs → RunSays log state given after told.jobs (rounded_up options.sq) options.idle (Err fault))
     → Failed log state plan told options before after (status_of fault)
-failed_as log state plan told options before given after fault None files none h run =
+failed_as log state plan told options before given after fault None seeds none h run =
     let valid = valid_where_none options.sq options.cq told.jobs none in
     at_fault fault valid (run valid)
   where
     at_fault : (fault : RunFault) (valid : IsValidRun options.sq options.cq told.jobs) → RunSays log state given after told.jobs (rounded_up options.sq) options.idle (Err fault) → Failed log state plan told options before after (status_of fault)
     at_fault BadSize valid says = absurd says.fault
     at_fault (BadJob n) valid says = absurd says.fault
-    at_fault (Stranger u) valid says = record { given = given; files = files; valid = valid; says = says }
-    at_fault Stalled valid says = record { given = given; files = files; valid = valid; says = says }
-    at_fault PartnerFault valid says = inr (record { given = given; files = files; valid = valid; says = says })
-    at_fault NoMemory valid says = inr (Err NoMemory, record { given = given; files = files; valid = valid; says = says })
-failed_as log state plan told options before given after fault (Some f) files some h run =
-    refused fault (some ∙ ap (λ (x : RunFault). Some x) (sym same)) (subst (λ p. HasFiles log state plan told.files before p) (sym h.1) files)
+    at_fault (Stranger u) valid says = record { given = given; seeds = seeds; valid = valid; says = says }
+    at_fault Stalled valid says = record { given = given; seeds = seeds; valid = valid; says = says }
+    at_fault PartnerFault valid says = inr (record { given = given; seeds = seeds; valid = valid; says = says })
+    at_fault NoMemory valid says = inr (Err NoMemory, record { given = given; seeds = seeds; valid = valid; says = says })
+failed_as log state plan told options before given after fault (Some f) seeds some h run =
+    refused fault (some ∙ ap (λ (x : RunFault). Some x) (sym same)) (subst (λ p. IsSeeded log state plan told.files told.choices before p) (sym h.1) seeds)
   where
     same : fault ≡ f
     same = cc
 
-    refused : (fault : RunFault) → refusal options.sq options.cq told.jobs ≡ Some fault → HasFiles log state plan told.files before after → Failed log state plan told options before after (status_of fault)
-    refused BadSize e files = record { files = files; refused = e }
-    refused (BadJob n) e files = record { files = files; refused = e }
-    refused (Stranger u) e files = let x : is_refusal (Stranger u) ≡ true = refused_as (is_valid_size options.sq options.cq) (first_bad 0 told.jobs) (Stranger u) e in absurd cc
-    refused Stalled e files = let x : is_refusal Stalled ≡ true = refused_as (is_valid_size options.sq options.cq) (first_bad 0 told.jobs) Stalled e in absurd cc
-    refused PartnerFault e files = let x : is_refusal PartnerFault ≡ true = refused_as (is_valid_size options.sq options.cq) (first_bad 0 told.jobs) PartnerFault e in absurd cc
-    refused NoMemory e files = let x : is_refusal NoMemory ≡ true = refused_as (is_valid_size options.sq options.cq) (first_bad 0 told.jobs) NoMemory e in absurd cc
+    refused : (fault : RunFault) → refusal options.sq options.cq told.jobs ≡ Some fault → IsSeeded log state plan told.files told.choices before after → Failed log state plan told options before after (status_of fault)
+    refused BadSize e seeds = record { seeds = seeds; refused = e }
+    refused (BadJob n) e seeds = record { seeds = seeds; refused = e }
+    refused (Stranger u) e seeds = let x : is_refusal (Stranger u) ≡ true = refused_as (is_valid_size options.sq options.cq) (first_bad 0 told.jobs) (Stranger u) e in absurd cc
+    refused Stalled e seeds = let x : is_refusal Stalled ≡ true = refused_as (is_valid_size options.sq options.cq) (first_bad 0 told.jobs) Stalled e in absurd cc
+    refused PartnerFault e seeds = let x : is_refusal PartnerFault ≡ true = refused_as (is_valid_size options.sq options.cq) (first_bad 0 told.jobs) PartnerFault e in absurd cc
+    refused NoMemory e seeds = let x : is_refusal NoMemory ≡ true = refused_as (is_valid_size options.sq options.cq) (first_bad 0 told.jobs) NoMemory e in absurd cc
 
 pub failed : {P : Type 0} (log : P → Option (List LogEvent)) (state : P → Option PartnerState) (plan : P → List ℕ) (told : Told) (options : Options) (before given after : P) (fault : RunFault)
-    → HasFiles log state plan told.files before given → IfSome (refusal options.sq options.cq told.jobs) (λ f. (◌≡◌ {A = Result Report RunFault} (Err fault) (Err f)) × (after ≡ given))
+    → IsSeeded log state plan told.files told.choices before given → IfSome (refusal options.sq options.cq told.jobs) (λ f. (◌≡◌ {A = Result Report RunFault} (Err fault) (Err f)) × (after ≡ given))
     → (IsValidRun options.sq options.cq told.jobs → RunSays log state given after told.jobs (rounded_up options.sq) options.idle (Err fault))
     → Failed log state plan told options before after (status_of fault)
-failed log state plan told options before given after fault files refused run = failed_as log state plan told options before given after fault (refusal options.sq options.cq told.jobs) files refl refused run
+failed log state plan told options before given after fault seeds refused run = failed_as log state plan told options before given after fault (refusal options.sq options.cq told.jobs) seeds refl refused run
 
 -- a report of the run
 performed_as : {P : Type 0} (log : P → Option (List LogEvent)) (state : P → Option PartnerState) (plan : P → List ℕ) (told : Told) (options : Options) (before given after : P) (report : Report) (r : Option RunFault)
-    → HasFiles log state plan told.files before given → refusal options.sq options.cq told.jobs ≡ r → IfSome r (λ f. (◌≡◌ {A = Result Report RunFault} (Ok report) (Err f)) × (after ≡ given))
+    → IsSeeded log state plan told.files told.choices before given → refusal options.sq options.cq told.jobs ≡ r → IfSome r (λ f. (◌≡◌ {A = Result Report RunFault} (Ok report) (Err f)) × (after ≡ given))
     → (IsValidRun options.sq options.cq told.jobs → RunSays log state given after told.jobs (rounded_up options.sq) options.idle (Ok report))
     → Performed log state plan told options before after (Ok report)
-performed_as log state plan told options before given after report None files none h run =
+performed_as log state plan told options before given after report None seeds none h run =
     let valid = valid_where_none options.sq options.cq told.jobs none in
-    record { given = given; files = files; valid = valid; says = run valid }
-performed_as log state plan told options before given after report (Some f) files some h run = let x = h.0 in absurd cc
+    record { given = given; seeds = seeds; valid = valid; says = run valid }
+performed_as log state plan told options before given after report (Some f) seeds some h run = let x = h.0 in absurd cc
 
 pub performed : {P : Type 0} (log : P → Option (List LogEvent)) (state : P → Option PartnerState) (plan : P → List ℕ) (told : Told) (options : Options) (before given after : P) (report : Report)
-    → HasFiles log state plan told.files before given → IfSome (refusal options.sq options.cq told.jobs) (λ f. (◌≡◌ {A = Result Report RunFault} (Ok report) (Err f)) × (after ≡ given))
+    → IsSeeded log state plan told.files told.choices before given → IfSome (refusal options.sq options.cq told.jobs) (λ f. (◌≡◌ {A = Result Report RunFault} (Ok report) (Err f)) × (after ≡ given))
     → (IsValidRun options.sq options.cq told.jobs → RunSays log state given after told.jobs (rounded_up options.sq) options.idle (Ok report))
     → Performed log state plan told options before after (Ok report)
-performed log state plan told options before given after report files refused run = performed_as log state plan told options before given after report (refusal options.sq options.cq told.jobs) files refl refused run
+performed log state plan told options before given after report seeds refused run = performed_as log state plan told options before given after report (refusal options.sq options.cq told.jobs) seeds refl refused run

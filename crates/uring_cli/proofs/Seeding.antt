@@ -1,43 +1,96 @@
--- Files that are put into a partner one after the other.
-use Rattle.std.proofs.Common.{◌≡◌, ℕ, List, [], ◌∷◌, ◌++◌, Option, Some, None, IfSome, refl, ap, sym, subst, ◌∙◌, append_assoc}
+-- Files and choices that are put into a partner one after the other.
+use Rattle.std.proofs.Common.{◌≡◌, ◌⊎◌, inl, inr, ℕ, List, [], ◌∷◌, ◌++◌, Option, Some, None, IfSome, refl, ap, sym, subst, ◌∙◌, append_assoc, append-nil}
 use Rattle.std.specs.FinMap.{insert}
 use Rattle.uring_entry.specs.declared.events.LogEvent.{LogEvent}
 use Rattle.uring_model.specs.Machine.{Files}
 use Rattle.uring_model.specs.Partner.{PartnerState}
-use Rattle.uring_partner.specs.Calls.{StateBecomes, with_file}
+use Rattle.uring_partner.specs.Calls.{StateBecomes, with_file, with_choice}
 use Rattle.uring_text.specs.declared.script.Seed.{Seed}
-use Rattle.uring_cli.specs.Files.{with_files, seeded, HasFiles}
+use Rattle.uring_cli.specs.Seeds.{with_files, seeded, IsSeeded, IsPartSeeded}
+
+-- what becomes of a state in two steps
+becomes_then : (before now next : Option PartnerState) (f g h : PartnerState → PartnerState) → ((a : PartnerState) → g (f a) ≡ h a) → StateBecomes before f now → StateBecomes now g next → StateBecomes before h next
+becomes_then None now next f g h e so step = subst (λ s. StateBecomes s g next) so step
+becomes_then (Some a) now next f g h e so step = subst (λ s. StateBecomes s g next) so step ∙ ap (λ (x : PartnerState). Some x) (e a)
 
 files_more : (front : List Seed) (seed : Seed) (files : Files) → with_files (front ++ seed ∷ []) files ≡ insert (with_files front files) seed.number seed.bytes
 files_more [] seed files = refl
 files_more (first ∷ front) seed files = files_more front seed (insert files first.number first.bytes)
 
-seeded_more : (front : List Seed) (seed : Seed) (a : PartnerState) → seeded (front ++ seed ∷ []) a ≡ with_file seed.number seed.bytes (seeded front a)
-seeded_more front seed a = ap (λ (files : Files). record a { files = files }) (files_more front seed a.files)
+-- nothing was put in
+none_gained : (before : Option PartnerState) → StateBecomes before (seeded [] []) before
+none_gained None = refl
+none_gained (Some a) = ap (λ c. Some (record a { choices = c })) (sym (append-nil a.choices))
 
-state_more : (front : List Seed) (seed : Seed) (before now next : Option PartnerState) → StateBecomes before (seeded front) now → StateBecomes now (with_file seed.number seed.bytes) next → StateBecomes before (seeded (front ++ seed ∷ [])) next
-state_more front seed None now next so step = subst (λ s. StateBecomes s (with_file seed.number seed.bytes) next) so step
-state_more front seed (Some a) now next so step =
-    subst (λ s. StateBecomes s (with_file seed.number seed.bytes) next) so step ∙ ap (λ (x : PartnerState). Some x) (sym (seeded_more front seed a))
-
-pub state_none : (before : Option PartnerState) → StateBecomes before (seeded []) before
-state_none None = refl
-state_none (Some a) = refl
+pub none_seeded : {P : Type 0} (log : P → Option (List LogEvent)) (state : P → Option PartnerState) (plan : P → List ℕ) (p : P) → IsSeeded log state plan [] [] p p
+none_seeded log state plan p = record { gains = none_gained (state p); logs = refl; plans = refl }
 
 -- one more file is in
-pub one_more : {P : Type 0} (log : P → Option (List LogEvent)) (state : P → Option PartnerState) (plan : P → List ℕ) (front : List Seed) (seed : Seed) (before now next : P)
-    → HasFiles log state plan front before now → StateBecomes (state now) (with_file seed.number seed.bytes) (state next) → log next ≡ log now → plan next ≡ plan now → HasFiles log state plan (front ++ seed ∷ []) before next
-one_more log state plan front seed before now next so step logs plans = record {
-  files = state_more front seed (state before) (state now) (state next) so.files step;
+pub one_more_file : {P : Type 0} (log : P → Option (List LogEvent)) (state : P → Option PartnerState) (plan : P → List ℕ) (front : List Seed) (seed : Seed) (before now next : P)
+    → IsSeeded log state plan front [] before now → StateBecomes (state now) (with_file seed.number seed.bytes) (state next) → log next ≡ log now → plan next ≡ plan now → IsSeeded log state plan (front ++ seed ∷ []) [] before next
+one_more_file log state plan front seed before now next so step logs plans = record {
+  gains = becomes_then (state before) (state now) (state next) (seeded front []) (with_file seed.number seed.bytes) (seeded (front ++ seed ∷ []) []) (λ a. ap (λ (files : Files). record a { files = files; choices = a.choices ++ [] }) (sym (files_more front seed a.files))) so.gains step;
   logs = logs ∙ so.logs;
   plans = plans ∙ so.plans;
 }
 
--- of the files that are left, the first is in
-pub moved_over : (files front rest rest' : List Seed) (seed : Seed) → files ≡ front ++ rest → rest ≡ seed ∷ rest' → files ≡ (front ++ seed ∷ []) ++ rest'
-moved_over files front rest rest' seed all next = all ∙ ap (λ l. front ++ l) next ∙ sym (append_assoc front (seed ∷ []) rest')
+-- one more choice is in
+pub one_more_choice : {P : Type 0} (log : P → Option (List LogEvent)) (state : P → Option PartnerState) (plan : P → List ℕ) (front : List ℕ) (choice : ℕ) (before now next : P)
+    → IsSeeded log state plan [] front before now → StateBecomes (state now) (with_choice choice) (state next) → log next ≡ log now → plan next ≡ plan now → IsSeeded log state plan [] (front ++ choice ∷ []) before next
+one_more_choice log state plan front choice before now next so step logs plans = record {
+  gains = becomes_then (state before) (state now) (state next) (seeded [] front) (with_choice choice) (seeded [] (front ++ choice ∷ [])) (λ a. ap (λ c. record a { choices = c }) (sym (append_assoc a.choices front (choice ∷ [])))) so.gains step;
+  logs = logs ∙ so.logs;
+  plans = plans ∙ so.plans;
+}
 
--- a count that stays at each file stays over all
-pub still_calm : (E : Type 0) (front : List Seed) (before now : Option PartnerState) (first count next : ℕ) → StateBecomes before (seeded front) now → IfSome before (λ _. count ≡ first) → IfSome now (λ _. E × (next ≡ count)) → IfSome before (λ _. next ≡ first)
-still_calm E front None now first count next so calm step = tt
-still_calm E front (Some a) now first count next so calm step = (subst (λ s. IfSome s (λ _. E × (next ≡ count))) so step).1 ∙ calm
+-- files first, then choices
+pub seeded_both : {P : Type 0} (log : P → Option (List LogEvent)) (state : P → Option PartnerState) (plan : P → List ℕ) (files : List Seed) (choices : List ℕ) (before now next : P)
+    → IsSeeded log state plan files [] before now → IsSeeded log state plan [] choices now next → IsSeeded log state plan files choices before next
+seeded_both log state plan files choices before now next a b = record {
+  gains = becomes_then (state before) (state now) (state next) (seeded files []) (seeded [] choices) (seeded files choices) (λ x. ap (λ c. record x { files = with_files files x.files; choices = c ++ choices }) (append-nil x.choices)) a.gains b.gains;
+  logs = b.logs ∙ a.logs;
+  plans = b.plans ∙ a.plans;
+}
+
+-- some of the files are in, and no choice
+pub some_files : {P : Type 0} (log : P → Option (List LogEvent)) (state : P → Option PartnerState) (plan : P → List ℕ) (files : List Seed) (choices : List ℕ) (before after : P) → IsPartSeeded log state plan files [] before after → IsPartSeeded log state plan files choices before after
+some_files log state plan files choices before after so = record {
+  files = so.files;
+  more_files = so.more_files;
+  front = [];
+  more_choices = choices;
+  all_files = so.all_files;
+  all_choices = refl;
+  in_turn = inl refl;
+  given = subst (λ c. IsSeeded log state plan so.files c before after) (no_front so.front so.more_choices so.all_choices) so.given;
+}
+  where
+    no_front : (xs ys : List ℕ) → [] ≡ xs ++ ys → xs ≡ []
+    no_front [] ys e = refl
+    no_front (x ∷ xs) ys e = cc
+
+-- all files are in, and some of the choices
+pub some_choices : {P : Type 0} (log : P → Option (List LogEvent)) (state : P → Option PartnerState) (plan : P → List ℕ) (files : List Seed) (choices : List ℕ) (before now after : P) → IsSeeded log state plan files [] before now → IsPartSeeded log state plan [] choices now after → IsPartSeeded log state plan files choices before after
+some_choices log state plan files choices before now after a so = record {
+  files = files;
+  more_files = [];
+  front = so.front;
+  more_choices = so.more_choices;
+  all_files = sym (append-nil files);
+  all_choices = so.all_choices;
+  in_turn = inr refl;
+  given = seeded_both log state plan files so.front before now after a (subst (λ f. IsSeeded log state plan f so.front now after) (no_files so.files so.more_files so.all_files) so.given);
+}
+  where
+    no_files : (xs ys : List Seed) → [] ≡ xs ++ ys → xs ≡ []
+    no_files [] ys e = refl
+    no_files (x ∷ xs) ys e = cc
+
+-- of what is left, the first is in
+pub moved_over : {A : Type 0} (all front rest rest' : List A) (x : A) → all ≡ front ++ rest → rest ≡ x ∷ rest' → all ≡ (front ++ x ∷ []) ++ rest'
+moved_over all front rest rest' x whole next = whole ∙ ap (λ l. front ++ l) next ∙ sym (append_assoc front (x ∷ []) rest')
+
+-- a count that stays at each step stays over all
+pub still_calm : (E : Type 0) (seeds : List Seed) (choices : List ℕ) (before now : Option PartnerState) (first count next : ℕ) → StateBecomes before (seeded seeds choices) now → IfSome before (λ _. count ≡ first) → IfSome now (λ _. E × (next ≡ count)) → IfSome before (λ _. next ≡ first)
+still_calm E seeds choices None now first count next so calm step = tt
+still_calm E seeds choices (Some a) now first count next so calm step = (subst (λ s. IfSome s (λ _. E × (next ≡ count))) so step).1 ∙ calm

@@ -1,5 +1,5 @@
 pub mod Words
 pub mod Input
-pub mod Files
+pub mod Seeds
 pub mod Runs
 pub mod Ends

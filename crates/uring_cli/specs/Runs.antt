@@ -11,18 +11,18 @@ use Rattle.uring_text.specs.Script.{Told}
 use Rattle.uring_text.specs.declared.status.Status.{Status}
 use Rattle.uring_text.specs.declared.status.Status.TheVariants as ends
 use Rattle.uring_cli.specs.declared.words.Options.{Options}
-use Rattle.uring_cli.specs.Files.{HasFiles, HasSomeFiles}
+use Rattle.uring_cli.specs.Seeds.{IsSeeded, IsPartSeeded}
 
--- The script's files were put in, and its jobs were run with this answer.
+-- The script's files and choices were put in, and its jobs were run with this answer.
 pub record Performed {P : Type 0} (log : P → Option (List LogEvent)) (state : P → Option PartnerState) (plan : P → List ℕ) (told : Told) (options : Options) (before after : P) (answer : Result Report RunFault) : Type 0 where
   pub given : P
-  pub files : HasFiles log state plan told.files before given
+  pub seeds : IsSeeded log state plan told.files told.choices before given
   pub valid : IsValidRun options.sq options.cq told.jobs
   pub says : RunSays log state given after told.jobs (rounded_up options.sq) options.idle answer
 
--- The script's files were put in, and its jobs weren't begun.
+-- The script's files and choices were put in, and its jobs weren't begun.
 pub record Refused {P : Type 0} (log : P → Option (List LogEvent)) (state : P → Option PartnerState) (plan : P → List ℕ) (told : Told) (options : Options) (before after : P) (fault : RunFault) : Type 0 where
-  pub files : HasFiles log state plan told.files before after
+  pub seeds : IsSeeded log state plan told.files told.choices before after
   pub refused : refusal options.sq options.cq told.jobs ≡ Some fault
 
 -- what the partner did for a script of which there is no report
@@ -31,8 +31,8 @@ Failed log state plan told options before after ends.BadSize = Refused log state
 Failed log state plan told options before after (ends.BadJob job) = Refused log state plan told options before after (faults.BadJob job)
 Failed log state plan told options before after (ends.Stranger number) = Performed log state plan told options before after (Err (faults.Stranger number))
 Failed log state plan told options before after ends.Stalled = Performed log state plan told options before after (Err faults.Stalled)
-Failed log state plan told options before after ends.PartnerFault = HasSomeFiles log state plan told.files before after ⊎ Performed log state plan told options before after (Err faults.PartnerFault)
-Failed log state plan told options before after ends.NoMemory = HasSomeFiles log state plan told.files before after ⊎ ((answer : Result Report RunFault) × Performed log state plan told options before after answer)
+Failed log state plan told options before after ends.PartnerFault = IsPartSeeded log state plan told.files told.choices before after ⊎ Performed log state plan told options before after (Err faults.PartnerFault)
+Failed log state plan told options before after ends.NoMemory = IsPartSeeded log state plan told.files told.choices before after ⊎ ((answer : Result Report RunFault) × Performed log state plan told options before after answer)
 Failed log state plan told options before after ends.Done = ⊥
 Failed log state plan told options before after ends.Usage = ⊥
 Failed log state plan told options before after ends.ReadFault = ⊥

@@ -8,7 +8,7 @@ ghost use Rattle.uring_run.specs.Rounds.{fault_of};
 ghost use Rattle.uring_text.specs.Report.{text_of};
 ghost use Rattle.uring_text.specs.Script.{told_by};
 ghost use Rattle.uring_text.specs.Status.{status_of};
-ghost use Rattle.uring_cli.specs.Files.{HasFiles, HasSomeFiles};
+ghost use Rattle.uring_cli.specs.Seeds.{IsSeeded, IsPartSeeded};
 ghost use Rattle.uring_cli.specs.Runs.{Performed, Failed, is_partner_fault};
 
 use crate::words::Options;
@@ -24,8 +24,8 @@ fn seed_files<P: Seedable>(
     partner: &mut P,
     files: Vec<Seed>,
 ) -> Result<(), PartnerError>
-    ensures ok { OnOk result (HasFiles P.log P.state P.plan files.items partner.old partner.new) }
-    ensures err { OnErr result (HasSomeFiles P.log P.state P.plan files.items partner.old partner.new) }
+    ensures ok { OnOk result (IsSeeded P.log P.state P.plan files.items [] partner.old partner.new) }
+    ensures err { OnErr result (IsPartSeeded P.log P.state P.plan files.items [] partner.old partner.new) }
     ensures plan { P.plan partner.new ≡ P.plan partner.old }
     ensures cause { HasCause is_fault (P.faults partner.old) (P.faults partner.new) result }
     ensures calm { IfSome (P.state partner.old) (λ _. IfErr result (λ e. is_fault e ≡ false) × (P.faults partner.new ≡ P.faults partner.old)) }
@@ -34,6 +34,41 @@ fn seed_files<P: Seedable>(
         partner.put_file(alloc, seed.number, seed.bytes)?;
     }
     Ok(())
+}
+
+/// Puts the choices in, in their order. After a refusal those before it are in.
+fn seed_choices<P: Seedable>(
+    alloc: Global,
+    partner: &mut P,
+    choices: Vec<u32>,
+) -> Result<(), PartnerError>
+    ensures ok { OnOk result (IsSeeded P.log P.state P.plan [] choices.items partner.old partner.new) }
+    ensures err { OnErr result (IsPartSeeded P.log P.state P.plan [] choices.items partner.old partner.new) }
+    ensures plan { P.plan partner.new ≡ P.plan partner.old }
+    ensures cause { HasCause is_fault (P.faults partner.old) (P.faults partner.new) result }
+    ensures calm { IfSome (P.state partner.old) (λ _. IfErr result (λ e. is_fault e ≡ false) × (P.faults partner.new ≡ P.faults partner.old)) }
+{
+    for choice in choices {
+        partner.add_choice(alloc, choice)?;
+    }
+    Ok(())
+}
+
+/// Puts a script's files in, and then its choices.
+fn seed_all<P: Seedable>(
+    alloc: Global,
+    partner: &mut P,
+    files: Vec<Seed>,
+    choices: Vec<u32>,
+) -> Result<(), PartnerError>
+    ensures ok { OnOk result (IsSeeded P.log P.state P.plan files.items choices.items partner.old partner.new) }
+    ensures err { OnErr result (IsPartSeeded P.log P.state P.plan files.items choices.items partner.old partner.new) }
+    ensures plan { P.plan partner.new ≡ P.plan partner.old }
+    ensures cause { HasCause is_fault (P.faults partner.old) (P.faults partner.new) result }
+    ensures calm { IfSome (P.state partner.old) (λ _. IfErr result (λ e. is_fault e ≡ false) × (P.faults partner.new ≡ P.faults partner.old)) }
+{
+    seed_files(alloc, partner, files)?;
+    seed_choices(alloc, partner, choices)
 }
 
 /// The status of a partner that failed.
@@ -46,7 +81,7 @@ fn status_after(error: PartnerError) -> Status
     }
 }
 
-/// Puts the script's files in, runs its jobs, and gives the report as text.
+/// Puts the script's files and choices in, runs its jobs, and gives the report as text.
 pub fn perform<P: Seedable>(
     alloc: Global,
     options: Options,
@@ -68,8 +103,12 @@ pub fn perform<P: Seedable>(
         start,
         idle,
     } = options;
-    let Script { files, jobs, .. } = script;
-    if let Err(error) = seed_files(alloc, partner, files) {
+    let Script {
+        files,
+        choices,
+        jobs,
+    } = script;
+    if let Err(error) = seed_all(alloc, partner, files, choices) {
         return Err(status_after(error));
     }
     let report = run_jobs(alloc, sq, cq, start, idle, partner, jobs)?;

@@ -1,5 +1,8 @@
+mod table;
+
 use crate::{Status, Word, ring_main, status_text};
 use std::alloc::{AllocError, Global};
+use std::process::Abort;
 use std::test::Fail;
 use uring_entry::{Buf, Nums};
 use uring_model::{Files, Outcome, have_counts, replay};
@@ -102,11 +105,58 @@ fn reports(rt: HostRuntime) -> Result<(), Fail> {
             "read 9 0 1\n",
             "out 0 -9 00\nturn 1\ntake 0\npost 0 -9\nend\n",
         ),
+        (
+            "choose 2\nnop\nnop\n",
+            "out 0 0 -\nout 1 0 -\nturn 2\ntake 0\ntake 1\npost 1 0\nturn 0\npost 0 0\nend\n",
+        ),
+        (
+            "choose 2\nnop\nnop drain\n",
+            "out 0 0 -\nout 1 0 -\nturn 2\ntake 0\ntake 1\npost 0 0\nturn 0\npost 1 0\nend\n",
+        ),
+        (
+            "choose 2\nfile 3 ab\nread 3 0 1\ncancel 0\n",
+            "out 0 -125 00\nout 1 0 -\nturn 2\ntake 0\ntake 1\npost 1 0\nturn 0\npost 0 -125\nend\n",
+        ),
+        ("cancel 0\n", "out 0 -2 -\nturn 1\ntake 0\npost 0 -2\nend\n"),
     ] {
         assert!(rt;
             ends(rt.alloc(), &calling("run", script), Status::Done, report)?,
             "{script}"
         );
+    }
+    Ok(())
+}
+
+/// A soft link is cut by a read that comes short, and a hard one isn't; what is cut changes no
+/// file. A file that is made longer is filled with zeros.
+#[test]
+fn files_after_links(rt: HostRuntime) -> Result<(), Fail> {
+    let alloc = rt.alloc();
+    for (script, report, number, bytes) in [
+        (
+            "file 3 ab\nread 3 0 2 link\nwrite 3 0 cc\n",
+            "out 0 1 ab00\nout 1 -125 cc\nturn 2\ntake 0\ntake 1\npost 0 1\npost 1 -125\nend\n",
+            3,
+            b"\xab".as_slice(),
+        ),
+        (
+            "file 3 ab\nread 3 0 2 hard\nwrite 3 0 cc\n",
+            "out 0 1 ab00\nout 1 1 cc\nturn 2\ntake 0\ntake 1\npost 0 1\npost 1 1\nend\n",
+            3,
+            b"\xcc".as_slice(),
+        ),
+        (
+            "file 1 ab\ntruncate 1 3\n",
+            "out 0 0 -\nturn 1\ntake 0\npost 0 0\nend\n",
+            1,
+            b"\xab\0\0".as_slice(),
+        ),
+    ] {
+        let mut partner = MemoryPartner::new(alloc);
+        let (status, text) = called(alloc, &calling("run", script), &mut partner)?;
+        assert_eq!(rt; status, Status::Done, "{script}");
+        assert_eq!(rt; text.as_slice(), report.as_bytes(), "{script}");
+        assert_eq!(rt; partner.file_bytes(number), Some(bytes), "{script}");
     }
     Ok(())
 }
@@ -191,6 +241,11 @@ fn sizes(rt: HostRuntime) -> Result<(), Fail> {
             "run --sq 2 --start 4294967295",
             "nop\nnop",
             "out 0 0 -\nout 1 0 -\nturn 2\ntake 0\ntake 1\npost 0 0\npost 1 0\nend\n",
+        ),
+        (
+            "run --sq 2 --start 4294967295",
+            "choose 2\nnop\nnop",
+            "out 0 0 -\nout 1 0 -\nturn 2\ntake 0\ntake 1\npost 1 0\nturn 0\npost 0 0\nend\n",
         ),
         (
             "run --idle 4294967295 --start 0 --cq 65536 --sq 32768",
@@ -335,6 +390,9 @@ fn replay_agrees(alloc: Global, script: &str) -> Result<bool, Fail> {
     for seed in run.files {
         partner.put_file(alloc, seed.number, seed.bytes)?;
     }
+    for choice in run.choices {
+        partner.add_choice(alloc, choice)?;
+    }
     let mut files = Files::new(alloc);
     for seed in again.files {
         files.put(alloc, seed.number, seed.bytes)?;
@@ -365,4 +423,27 @@ fn plain_replay(rt: HostRuntime) -> Result<(), Fail> {
         assert!(rt; replay_agrees(rt.alloc(), script)?, "{script}");
     }
     Ok(())
+}
+
+/// Asserts that each call ends well with its report, and that the plain replay agrees with a run
+/// of its script.
+fn assert_rows(rt: &impl Abort, alloc: Global, rows: &[table::Row]) -> Result<(), Fail> {
+    for (words, script, report) in rows {
+        assert!(rt;
+            ends(alloc, &calling(words, script), Status::Done, report)?,
+            "{words}: {script}"
+        );
+        assert!(rt; replay_agrees(alloc, script)?, "{script}");
+    }
+    Ok(())
+}
+
+/// Scripts with marks, cancels and choices give what a second reading of the definitions gives.
+#[test]
+fn worked_out_reports(rt: HostRuntime) -> Result<(), Fail> {
+    let alloc = rt.alloc();
+    assert_rows(&rt, alloc, &table::drained())?;
+    assert_rows(&rt, alloc, &table::linked())?;
+    assert_rows(&rt, alloc, &table::canceled())?;
+    assert_rows(&rt, alloc, &table::chosen())
 }

@@ -3,5 +3,8 @@ pub mod Numbers
 pub mod Steps
 pub mod Fronts
 pub mod Reading
+pub mod Found
+pub mod MarksSaid
+pub mod KindsSaid
 pub mod LinesSaid
 pub mod ScriptsSaid

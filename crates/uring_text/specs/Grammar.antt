@@ -4,10 +4,10 @@ use Rattle.hex.specs.Hex.{decode_of}
 use Rattle.uring_model.specs.declared.jobs.JobKind.{JobKind}
 use Rattle.uring_model.specs.declared.jobs.JobKind.TheVariants.{Nop, Read, Write, Fsync, Ftruncate, Cancel}
 use Rattle.uring_model.specs.declared.jobs.Link.{Link}
-use Rattle.uring_model.specs.declared.jobs.Link.TheVariants.{Free}
+use Rattle.uring_model.specs.declared.jobs.Link.TheVariants.{Free, Soft, Hard}
 use Rattle.uring_text.specs.declared.script.Line.{Line}
 use Rattle.uring_text.specs.declared.script.Line.TheVariants as line
-use Rattle.uring_text.specs.Limits.{number_limit, offset_limit, len_limit, most_files, most_jobs, most_buffered}
+use Rattle.uring_text.specs.Limits.{number_limit, choice_limit, offset_limit, len_limit, size_limit, job_limit, most_files, most_jobs, most_buffered}
 use Rattle.uring_text.specs.Lines.{fields_of}
 use Rattle.uring_text.specs.Script.{Told, files_of, choices_of, jobs_of, buffer_len, numbers_differ}
 
@@ -15,25 +15,32 @@ use Rattle.uring_text.specs.Script.{Told, files_of, choices_of, jobs_of, buffer_
 abbrev pub SpellsBytes : List ℕ → List ℕ → Type 0
 SpellsBytes text bytes = ((text ≡ codes "-") × (bytes ≡ [])) ⊎ ((0 < length text) × (decode_of text ≡ Ok bytes))
 
--- the fields of a kind of job, with these marks after them. The last three kinds have no line.
+-- a soft link is written `link`, a hard one `hard`, and none isn't written
+abbrev pub link_text : Link → List (List ℕ)
+link_text Free = []
+link_text Soft = codes "link" ∷ []
+link_text Hard = codes "hard" ∷ []
+
+-- the marks at the end of a job line: `drain` where it is drained, and then its link
+abbrev pub marks : Bool → Link → List (List ℕ)
+marks true link = codes "drain" ∷ link_text link
+marks false link = link_text link
+
+-- the fields of a kind of job, with these marks after them
 abbrev pub KindSaid : JobKind → List (List ℕ) → List (List ℕ) → Type 0
 KindSaid Nop fields end = fields ≡ codes "nop" ∷ end
 KindSaid (Read n at buf) fields end = (fields ≡ codes "read" ∷ decimal n ∷ decimal at ∷ decimal (length buf) ∷ end) × (n < number_limit) × (at < offset_limit) × (length buf < len_limit) × (buf ≡ replicate (length buf) 0)
 KindSaid (Write n at buf) fields end = (hex : List ℕ) × (fields ≡ codes "write" ∷ decimal n ∷ decimal at ∷ hex ∷ end) × (n < number_limit) × (at < offset_limit) × SpellsBytes hex buf
-KindSaid (Fsync n) fields end = ⊥
-KindSaid (Ftruncate n len) fields end = ⊥
-KindSaid (Cancel job) fields end = ⊥
+KindSaid (Fsync n) fields end = (fields ≡ codes "fsync" ∷ decimal n ∷ end) × (n < number_limit)
+KindSaid (Ftruncate n len) fields end = (fields ≡ codes "truncate" ∷ decimal n ∷ decimal len ∷ end) × (n < number_limit) × (len < size_limit)
+KindSaid (Cancel job) fields end = (fields ≡ codes "cancel" ∷ decimal job ∷ end) × (job < job_limit)
 
--- the marks at the end of a job line: there is none, so a job is neither drained nor linked
-abbrev pub MarksSaid : Bool → Link → List (List ℕ) → Type 0
-MarksSaid drain link end = (end ≡ []) × (drain ≡ false) × (link ≡ Free)
-
--- the fields of a line that says something. A choice has no line.
+-- the fields of a line that says something
 abbrev pub FieldsSay : List (List ℕ) → Line → Type 0
 FieldsSay fields line.Blank = ⊥
 FieldsSay fields (line.File seed) = (hex : List ℕ) × (fields ≡ codes "file" ∷ decimal seed.number ∷ hex ∷ []) × (seed.number < number_limit) × SpellsBytes hex seed.bytes
-FieldsSay fields (line.Choose c) = ⊥
-FieldsSay fields (line.Job job) = (end : List (List ℕ)) × KindSaid job.kind fields end × MarksSaid job.drain job.link end
+FieldsSay fields (line.Choose c) = (fields ≡ codes "choose" ∷ decimal c ∷ []) × (c < choice_limit)
+FieldsSay fields (line.Job job) = KindSaid job.kind fields (marks job.drain job.link)
 
 -- an empty line and a comment (35 is `#`) say nothing to do
 abbrev pub Says : List ℕ → Line → Type 0

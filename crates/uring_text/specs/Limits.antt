@@ -5,9 +5,21 @@ use Rattle.std.specs.Prelude.{ℕ, ◌^◌}
 abbrev pub number_limit : ℕ
 number_limit = 2 ^ 32
 
+-- a choice is below this
+abbrev pub choice_limit : ℕ
+choice_limit = 2 ^ 32
+
 -- the offset of a read or write is below this
 abbrev pub offset_limit : ℕ
 offset_limit = 2 ^ 64
+
+-- the length that a file is cut to is below this
+abbrev pub size_limit : ℕ
+size_limit = 2 ^ 64
+
+-- the number of a job to cancel is below this
+abbrev pub job_limit : ℕ
+job_limit = 2 ^ 64
 
 -- the length of a read is below this
 abbrev pub len_limit : ℕ

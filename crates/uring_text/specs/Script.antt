@@ -1,12 +1,12 @@
 -- A script: what each line says, and what all of them say together.
-use Rattle.std.specs.Prelude.{ℕ, ◌<◌, ◌≡◌, List, [], ◌∷◌, length, take, replicate, sum_by, Bool, true, false, not, Option, Some, None, IsSome, bytes_eq, Vec, codes, nat_le, ◌==◌, ◌&&◌, if◌then◌else◌}
+use Rattle.std.specs.Prelude.{ℕ, ◌<◌, ◌≡◌, List, [], ◌∷◌, length, take, replicate, sum_by, Bool, true, false, not, Option, Some, None, IsSome, bytes_eq, option_map, Vec, codes, nat_le, ◌==◌, ◌&&◌, if◌then◌else◌}
 use Rattle.std.specs.List.{list_any}
 use Rattle.std.specs.declared.alloc.Global.{Global}
 use Rattle.uring_model.specs.declared.jobs.Job.{Job}
 use Rattle.uring_model.specs.declared.jobs.JobKind.{JobKind}
-use Rattle.uring_model.specs.declared.jobs.JobKind.TheVariants.{Nop, Read, Write}
+use Rattle.uring_model.specs.declared.jobs.JobKind.TheVariants.{Nop, Read, Write, Fsync, Ftruncate, Cancel}
 use Rattle.uring_model.specs.declared.jobs.Link.{Link}
-use Rattle.uring_model.specs.declared.jobs.Link.TheVariants.{Free}
+use Rattle.uring_model.specs.declared.jobs.Link.TheVariants.{Free, Soft, Hard}
 use Rattle.uring_model.specs.Jobs.{buf_lent}
 use Rattle.uring_text.specs.declared.script.Seed.{Seed}
 use Rattle.uring_text.specs.declared.script.Line.{Line}
@@ -14,7 +14,7 @@ use Rattle.uring_text.specs.declared.script.Line.TheVariants as line
 use Rattle.uring_text.specs.declared.script.Script.{Script}
 use Rattle.uring_text.specs.declared.script.ScriptFault.{ScriptFault}
 use Rattle.uring_text.specs.declared.script.ScriptFault.TheVariants as fault
-use Rattle.uring_text.specs.Limits.{number_limit, offset_limit, len_limit, most_files, most_jobs, most_buffered}
+use Rattle.uring_text.specs.Limits.{number_limit, choice_limit, offset_limit, len_limit, size_limit, job_limit, most_files, most_jobs, most_buffered}
 use Rattle.uring_text.specs.Lines.{fields_of, number_below, bytes_spelled}
 
 infixl 10 ◌>>=◌
@@ -32,10 +32,28 @@ file_line (number ∷ hex ∷ []) = do
   Some (line.File (record { number = n; bytes = bytes }))
 file_line _ = None
 
--- the marks at the end of a job line: drained or not, and the link. There is no mark.
+-- `choose C`
+unfoldable pub choose_line : List (List ℕ) → Option Line
+choose_line (choice ∷ []) = do
+  c ← number_below choice_limit choice
+  Some (line.Choose c)
+choose_line _ = None
+
+-- the last mark of a job line: `link`, `hard` or none
+unfoldable pub link_mark : List (List ℕ) → Option Link
+link_mark [] = Some Free
+link_mark (mark ∷ []) =
+    if bytes_eq mark (codes "link") then Some Soft
+    else if bytes_eq mark (codes "hard") then Some Hard
+    else None
+link_mark (_ ∷ _ ∷ _) = None
+
+-- the marks at the end of a job line: `drain` or not, and then the link
 unfoldable pub marks_of : List (List ℕ) → Option (Bool × Link)
 marks_of [] = Some (false, Free)
-marks_of (_ ∷ _) = None
+marks_of (mark ∷ marks) =
+    if bytes_eq mark (codes "drain") then option_map (λ link. (true, link)) (link_mark marks)
+    else option_map (λ link. (false, link)) (link_mark (mark ∷ marks))
 
 -- what a job line says of the kind of its job, and the marks after that
 abbrev pub KindAndMarks : Type 0
@@ -59,11 +77,36 @@ write_fields (file ∷ offset ∷ hex ∷ marks) = do
   Some (Write n at bytes, marks)
 write_fields _ = None
 
+-- `fsync N`
+unfoldable pub fsync_fields : List (List ℕ) → KindAndMarks
+fsync_fields (file ∷ marks) = do
+  n ← number_below number_limit file
+  Some (Fsync n, marks)
+fsync_fields _ = None
+
+-- `truncate N LEN`
+unfoldable pub truncate_fields : List (List ℕ) → KindAndMarks
+truncate_fields (file ∷ len ∷ marks) = do
+  n ← number_below number_limit file
+  size ← number_below size_limit len
+  Some (Ftruncate n size, marks)
+truncate_fields _ = None
+
+-- `cancel J`
+unfoldable pub cancel_fields : List (List ℕ) → KindAndMarks
+cancel_fields (job ∷ marks) = do
+  j ← number_below job_limit job
+  Some (Cancel j, marks)
+cancel_fields _ = None
+
 unfoldable pub job_fields : List ℕ → List (List ℕ) → KindAndMarks
 job_fields word fields =
     if bytes_eq word (codes "nop") then Some (Nop, fields)
     else if bytes_eq word (codes "read") then read_fields fields
     else if bytes_eq word (codes "write") then write_fields fields
+    else if bytes_eq word (codes "fsync") then fsync_fields fields
+    else if bytes_eq word (codes "truncate") then truncate_fields fields
+    else if bytes_eq word (codes "cancel") then cancel_fields fields
     else None
 
 unfoldable pub job_line : List ℕ → List (List ℕ) → Option Line
@@ -74,7 +117,10 @@ job_line word fields = do
 
 unfoldable pub worded_line : List (List ℕ) → Option Line
 worded_line [] = None
-worded_line (word ∷ fields) = if bytes_eq word (codes "file") then file_line fields else job_line word fields
+worded_line (word ∷ fields) =
+    if bytes_eq word (codes "file") then file_line fields
+    else if bytes_eq word (codes "choose") then choose_line fields
+    else job_line word fields
 
 -- what a line says. An empty line and a comment (35 is `#`) say nothing to do.
 unfoldable pub line_says : List ℕ → Option Line

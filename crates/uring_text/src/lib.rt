@@ -2,8 +2,11 @@
 #![tactic(auto)]
 
 mod fields;
+mod jobs;
 mod laws;
+mod limits;
 mod line;
+mod marks;
 mod read;
 mod report;
 mod script;

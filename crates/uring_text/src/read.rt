@@ -8,16 +8,14 @@ ghost use Rattle.uring_text.specs.Adding.{adds};
 ghost use Rattle.uring_text.specs.declared.script.Line.TheVariants as line;
 
 use crate::fields::cut;
+use crate::limits::{MOST_BUFFERED, MOST_FILES, MOST_JOBS};
 use crate::line::line_says;
 use crate::script::{Line, Script, ScriptFault, Seed};
 use std::alloc::{AllocError, Global};
 use uring_model::{Job, JobKind};
 
-const MOST_FILES: usize = 64;
-
-const MOST_JOBS: usize = 262_144;
-
-const MOST_BUFFERED: usize = 67_108_864;
+#[cfg(test)]
+mod tests;
 
 /// The first line, and what follows it.
 fn next_line(text: &[u8]) -> Option<(&[u8], &[u8])>

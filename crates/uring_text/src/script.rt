@@ -20,7 +20,7 @@ pub enum Line {
     /// An empty line or a comment.
     Blank,
     File(Seed),
-    /// A number that steers the partner. No line says one.
+    /// A number by which the partner picks what it settles next.
     Choose(u32),
     Job(Job),
 }

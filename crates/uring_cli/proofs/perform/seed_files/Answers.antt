@@ -1,5 +1,5 @@
 use Rattle.std.proofs.Common.{◌++◌, ◌∷◌, [], arith}
-use Rattle.uring_cli.proofs.Seeding.{one_more, moved_over, still_calm}
+use Rattle.uring_cli.proofs.Seeding.{one_more_file, moved_over, still_calm}
 use Rattle.uring_cli.proofs.perform.seed_files.Goals as goal
 
 pub loop-seed-preserved : goal.loop-seed-preserved
@@ -9,8 +9,8 @@ loop-seed-preserved g c =
       front = (
         so.front.0 ++ c.in-Some.seed ∷ [],
         moved_over _ so.front.0 _ _ c.in-Some.seed so.front.1 c.in-Some.ensures.steps.0,
-        one_more g.P.Partner.log g.P.Partner.state g.P.Partner.plan so.front.0 c.in-Some.seed _ _ _ so.front.2 put.ok put.log put.plan,
+        one_more_file g.P.Partner.log g.P.Partner.state g.P.Partner.plan so.front.0 c.in-Some.seed _ _ _ so.front.2 put.ok put.log put.plan,
       );
       faults = omega arith;
-      calm = still_calm _ so.front.0 _ _ _ _ _ so.front.2.files so.calm put.no_fault;
+      calm = still_calm _ so.front.0 [] _ _ _ _ _ so.front.2.gains so.calm put.no_fault;
     }
