@@ -149,3 +149,20 @@ fn refusals(rt: HostRuntime) -> Result<(), Fail> {
     assert!(rt; matches!(jobs, Err(RunFault::BadJob(0))));
     Ok(())
 }
+
+/// A sync tells that it went well, or the errno: a result above 0 is told as 0.
+#[test]
+fn syncs(rt: HostRuntime) -> Result<(), Fail> {
+    let alloc = rt.alloc();
+    for (posted, told) in [(5, 0), (0, 0), (-5, -5)] {
+        let posts = vec![in alloc; post(0, posted, 0, LoanPlan::Nothing)]?;
+        let mut partner = HostilePartner::new(alloc, posts);
+        let jobs = one(alloc, JobKind::Fsync { file: 3 })?;
+        let Ok(report) = run_jobs(alloc, 8, 16, 0, 2, &mut partner, jobs) else {
+            assert!(rt; false);
+            return Ok(());
+        };
+        assert_eq!(rt; report.outcomes[0].result, told);
+    }
+    Ok(())
+}
