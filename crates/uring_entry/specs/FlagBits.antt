@@ -13,3 +13,6 @@ fsync_bits flags = flags.0
 -- whether the bit of this value, a power of two, is set
 abbrev pub has_bit : ℕ → ℕ → Bool
 has_bit word bit = nat_eq ((word / bit) % 2) 1
+
+abbrev pub no_fsync_flags : FsyncFlags
+no_fsync_flags = record { 0 = 0 }

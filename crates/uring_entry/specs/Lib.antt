@@ -6,3 +6,6 @@ pub mod Completions
 pub mod Loans
 pub mod Lending
 pub mod Sizes
+pub mod Bytes
+pub mod Layouts
+pub mod Numbers

@@ -1,7 +1,10 @@
 //! Completion entries.
 
 ghost use Rattle.std.specs.Prelude.{◌≡◌};
-ghost use Rattle.uring_entry.specs.Completions.{is_more};
+ghost use Rattle.uring_entry.specs.Completions.{is_buffer_more, is_more, is_notif, is_sock_nonempty, selected_buffer};
+
+pub use crate::completion_marker::EntryMarker;
+pub use crate::large_completion::Entry32;
 
 /// A completion entry of 16 bytes: its three words, laid out as in the Linux io_uring header.
 #[derive(Clone, Copy, PartialEq, Eq, Debug)]
@@ -12,6 +15,18 @@ pub struct Entry {
 }
 
 impl Entry {
+    /// The entry of these words. The two further numbers have no place in a small entry, and are
+    /// left out.
+    pub fn from_parts(user_data: u64, outcome: i32, flags: u32, _big: [u64; 2]) -> Entry
+        ensures { result ≡ record { user_data = user_data; result = outcome; flags = flags } }
+    {
+        Entry {
+            user_data,
+            result: outcome,
+            flags,
+        }
+    }
+
     /// The operation's result: a count or number, or an errno below 0.
     pub fn result(&self) -> i32
         ensures { result ≡ self.now.result }
@@ -47,4 +62,39 @@ pub fn more(flags: u32) -> bool
     ensures { result ≡ is_more flags }
 {
     flags / 2 % 2 == 1
+}
+
+/// Whether the buffer that the completion names still has room for more
+/// (`IORING_CQE_F_BUF_MORE`, the bit of value 16).
+pub fn buffer_more(flags: u32) -> bool
+    ensures { result ≡ is_buffer_more flags }
+{
+    flags / 16 % 2 == 1
+}
+
+/// Whether the socket has more to be received (`IORING_CQE_F_SOCK_NONEMPTY`, the bit of value 4).
+pub fn sock_nonempty(flags: u32) -> bool
+    ensures { result ≡ is_sock_nonempty flags }
+{
+    flags / 4 % 2 == 1
+}
+
+/// Whether this is the second completion of a send that doesn't copy, which says that its buffer is
+/// free again (`IORING_CQE_F_NOTIF`, the bit of value 8).
+pub fn notif(flags: u32) -> bool
+    ensures { result ≡ is_notif flags }
+{
+    flags / 8 % 2 == 1
+}
+
+/// The number of the buffer that the operation took from its group, where it took one
+/// (`IORING_CQE_F_BUFFER`, the bit of value 1). It stands in the upper 16 bits of the flags.
+pub fn buffer_select(flags: u32) -> Option<u16>
+    ensures { result ≡ selected_buffer flags }
+{
+    if flags % 2 == 1 {
+        Some((flags / 65536) as u16)
+    } else {
+        None
+    }
 }

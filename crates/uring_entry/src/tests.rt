@@ -1,6 +1,6 @@
-use crate::squeue::{Entry, Flags};
+use crate::squeue::{Entry, Entry128, Flags};
 use crate::types::{Fd, Fixed, FsyncFlags, Target, UseTarget};
-use crate::{Buf, Loan, Nums, cqueue};
+use crate::{Buf, Loan, Nums, cqueue, squeue};
 use bitflags::Flags as _;
 use std::test::Fail;
 
@@ -76,4 +76,144 @@ fn more_to_come(rt: HostRuntime) {
     assert!(rt; cqueue::more(2));
     assert!(rt; cqueue::more(0x30003));
     assert!(rt; !cqueue::more(0x3000d));
+}
+
+/// Each bit of a completion's flags, and the number of a buffer above them.
+#[test]
+fn flags_of_a_completion(rt: HostRuntime) {
+    assert!(rt; cqueue::buffer_more(16) && !cqueue::buffer_more(0xf000f));
+    assert!(rt; cqueue::sock_nonempty(4) && !cqueue::sock_nonempty(0x4001b));
+    assert!(rt; cqueue::notif(8) && !cqueue::notif(0x80017));
+    assert_eq!(rt; cqueue::buffer_select(0x30001), Some(3));
+    assert_eq!(rt; cqueue::buffer_select(0x30000), None);
+    assert_eq!(rt; cqueue::buffer_select(0xffff001f), Some(65535));
+}
+
+/// A read of 1024 bytes from the descriptor 5, under the number 0x42.
+fn read_of_five() -> Entry {
+    Entry {
+        addr: 7,
+        len: 1024,
+        ..Entry::blank(22)
+    }
+    .on(Fd(5).target())
+    .user_data(0x42)
+}
+
+/// A read's 64 bytes, word by word, and the entry that they hold.
+#[test]
+fn bytes_of_an_entry(rt: HostRuntime) {
+    let bytes = read_of_five().to_bytes();
+    assert_eq!(rt; &bytes[..8], b"\x16\0\0\0\x05\0\0\0".as_slice());
+    assert_eq!(rt; &bytes[8..16], b"\0\0\0\0\0\0\0\0".as_slice());
+    assert_eq!(rt; &bytes[16..24], b"\x07\0\0\0\0\0\0\0".as_slice());
+    assert_eq!(rt; &bytes[24..32], b"\0\x04\0\0\0\0\0\0".as_slice());
+    assert_eq!(rt; &bytes[32..40], b"\x42\0\0\0\0\0\0\0".as_slice());
+    assert_eq!(rt; &bytes[40..], [0; 24].as_slice());
+    assert_eq!(rt; Entry::from_bytes(&bytes), read_of_five());
+}
+
+/// The words of an entry whose bytes are all different.
+#[test]
+fn words_of_bytes(rt: HostRuntime) {
+    let mut bytes = [0; 64];
+    for i in 0..64u8 {
+        bytes[usize::from(i)] = 0xc0 + i;
+    }
+    let entry = Entry::from_bytes(&bytes);
+    assert_eq!(rt; entry.get_opcode(), 0xc0);
+    assert_eq!(rt; entry.flag_bits(), 0xc1);
+    assert_eq!(rt; entry.word_prio(), 0xc3c2);
+    assert_eq!(rt; entry.word_fd().cast_unsigned(), 0xc7c6c5c4);
+    assert_eq!(rt; entry.word_off(), 0xcfcecdcccbcac9c8);
+    assert_eq!(rt; entry.word_addr(), 0xd7d6d5d4d3d2d1d0);
+    assert_eq!(rt; entry.word_len(), 0xdbdad9d8);
+    assert_eq!(rt; entry.word_op(), 0xdfdedddc);
+    assert_eq!(rt; entry.get_user_data(), 0xe7e6e5e4e3e2e1e0);
+    assert_eq!(rt; entry.word_buf(), 0xe9e8);
+    assert_eq!(rt; entry.word_personality(), 0xebea);
+    assert_eq!(rt; entry.word_idx(), 0xefeeedec);
+    assert_eq!(rt; entry.word_third(), 0xf7f6f5f4f3f2f1f0);
+    assert_eq!(rt; entry.word_fourth(), 0xfffefdfcfbfaf9f8);
+    assert_eq!(rt; entry.to_bytes().as_slice(), bytes.as_slice());
+}
+
+/// A large entry: its setters, and its bytes, of which the last 64 lie behind those of a small one.
+#[test]
+fn large_entries(rt: HostRuntime) {
+    let mut large = Entry128::from(Entry::blank(46));
+    assert_eq!(rt; large.big.as_slice(), [0; 64].as_slice());
+    large.big[63] = 9;
+    let large = large
+        .flags(Flags::ASYNC)
+        .flags(Flags::IO_LINK)
+        .personality(0x102)
+        .user_data(3);
+    assert_eq!(rt; large.get_opcode(), 46);
+    assert_eq!(rt; large.get_user_data(), 3);
+    assert_eq!(rt; large.entry.flag_bits(), 20);
+    assert_eq!(rt; large.clear_flags().entry.flag_bits(), 0);
+    let bytes = large.to_bytes();
+    assert_eq!(rt; &bytes[..2], [46, 20].as_slice());
+    assert_eq!(rt; &bytes[42..44], [2, 1].as_slice());
+    assert_eq!(rt; &bytes[64..127], [0; 63].as_slice());
+    assert_eq!(rt; bytes[127], 9);
+    assert_eq!(rt; Entry128::from_bytes(&bytes), large);
+}
+
+/// Small and large completions, and their bytes.
+#[test]
+fn bytes_of_completions(rt: HostRuntime) {
+    let small = cqueue::Entry::from_parts(0x42, -2, 0x30001, [5, 6]);
+    let bytes = small.to_bytes();
+    assert_eq!(rt; &bytes[..8], b"\x42\0\0\0\0\0\0\0".as_slice());
+    assert_eq!(rt; &bytes[8..], b"\xfe\xff\xff\xff\x01\0\x03\0".as_slice());
+    assert_eq!(rt; cqueue::Entry::from_bytes(&bytes), small);
+    let large = cqueue::Entry32::from_parts(0x42, -2, 0x30001, [5, 0x600]);
+    assert_eq!(rt; large.result(), -2);
+    assert_eq!(rt; large.flags(), 0x30001);
+    assert_eq!(rt; large.big_cqe().as_slice(), [5, 0x600].as_slice());
+    assert_eq!(rt; cqueue::Entry::from(large), small);
+    let wide = large.to_bytes();
+    assert_eq!(rt; &wide[..16], bytes.as_slice());
+    assert_eq!(rt;
+        &wide[16..],
+        b"\x05\0\0\0\0\0\0\0\0\x06\0\0\0\0\0\0".as_slice()
+    );
+    assert_eq!(rt; cqueue::Entry32::from_bytes(&wide), large);
+}
+
+/// An entry of either size under another number: that number, the small entry, and the last of the
+/// bytes behind it.
+fn renumbered<E: squeue::EntryMarker>(mut entry: E, number: u64) -> (u64, Entry, u8) {
+    entry.set_user_data(number);
+    (entry.get_user_data(), entry.base(), entry.big()[63])
+}
+
+/// A completion of either size under another number: that number, what else it holds, and what it
+/// becomes.
+fn told<C: cqueue::EntryMarker>(number: u64) -> (u64, [u64; 2], cqueue::Entry) {
+    let mut completion = C::from_parts(1, -5, 2, [7, 8]);
+    completion.set_user_data(number);
+    (completion.user_data(), completion.big(), completion.into())
+}
+
+/// A number that is replaced reads as the new one, for entries and completions of both sizes.
+#[test]
+fn numbers(rt: HostRuntime) {
+    let nop = Entry::blank(0).on(Fd(-1).target());
+    assert_eq!(rt; nop.user_data(1).get_user_data(), 1);
+    assert_eq!(rt; renumbered(nop.user_data(1), 2), (2, nop.user_data(2), 0));
+    let mut large = Entry128::from(nop);
+    large.big[63] = 9;
+    assert_eq!(rt; large.user_data(3).get_user_data(), 3);
+    assert_eq!(rt; renumbered(large.user_data(3), 4), (4, nop.user_data(4), 9));
+    let small = cqueue::Entry::from_parts(2, -5, 2, [0; 2]);
+    assert_eq!(rt; told::<cqueue::Entry>(2), (2, [0; 2], small));
+    let small = cqueue::Entry::from_parts(4, -5, 2, [0; 2]);
+    assert_eq!(rt; told::<cqueue::Entry32>(4), (4, [7, 8], small));
+    assert_eq!(rt; <Entry as squeue::EntryMarker>::BUILD_FLAGS, 0);
+    assert_eq!(rt; <Entry128 as squeue::EntryMarker>::BUILD_FLAGS, 1024);
+    assert_eq!(rt; <cqueue::Entry as cqueue::EntryMarker>::BUILD_FLAGS, 0);
+    assert_eq!(rt; <cqueue::Entry32 as cqueue::EntryMarker>::BUILD_FLAGS, 2048);
 }

@@ -7,17 +7,27 @@
 
 mod cancels;
 mod nop;
+mod opens;
+mod polls;
 mod reads;
 mod sizes;
+mod stats;
 mod syncs;
+mod tables;
+mod timeouts;
 mod writes;
 
 pub use cancels::AsyncCancel;
 pub use nop::Nop;
-pub use reads::Read;
-pub use sizes::Ftruncate;
-pub use syncs::Fsync;
-pub use writes::Write;
+pub use opens::{Close, OpenAt};
+pub use polls::{PollAdd, PollRemove};
+pub use reads::{Read, ReadFixed, Readv};
+pub use sizes::{Fallocate, Ftruncate};
+pub use stats::Statx;
+pub use syncs::{Fsync, SyncFileRange};
+pub use tables::FilesUpdate;
+pub use timeouts::{LinkTimeout, Timeout, TimeoutRemove, TimeoutUpdate};
+pub use writes::{Write, WriteFixed, Writev};
 
 #[cfg(test)]
 mod tests;

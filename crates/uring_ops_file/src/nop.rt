@@ -11,7 +11,7 @@ pub struct Nop {}
 impl Nop {
     ghost use Rattle.uring_ops_file.specs.Rows.{new_nop, nop_words};
 
-    /// `IORING_OP_NOP`.
+    /// `IORING_OP_NOP` of `linux/io_uring.h`.
     pub const CODE: u8 = 0;
 
     /// A Nop.

@@ -1,6 +1,11 @@
-use crate::{AsyncCancel, Fsync, Ftruncate, Nop, Read, Write};
+use crate::{
+    AsyncCancel, Close, Fallocate, FilesUpdate, Fsync, Ftruncate, LinkTimeout, Nop, OpenAt,
+    PollAdd, PollRemove, Read, ReadFixed, Readv, Statx, SyncFileRange, Timeout, TimeoutRemove,
+    TimeoutUpdate, Write, WriteFixed, Writev,
+};
 use uring_entry::squeue::Entry;
 use uring_entry::types::{Fd, Fixed, FsyncFlags, Target};
+use uring_types::{DestinationSlot, TimeoutFlags};
 
 /// A Read of 1024 bytes from descriptor 5 into loan 7.
 #[test]
@@ -127,4 +132,224 @@ fn words_of_a_sync_a_truncate_and_a_cancel(rt: HostRuntime) {
         ..Entry::blank(14)
     };
     assert_eq!(rt; AsyncCancel::new(7).build(), words);
+}
+
+/// The operation codes of the Linux io_uring header.
+#[test]
+fn codes(rt: HostRuntime) {
+    assert_eq!(rt; (Readv::CODE, Writev::CODE, Fsync::CODE), (1, 2, 3));
+    assert_eq!(rt; (ReadFixed::CODE, WriteFixed::CODE), (4, 5));
+    assert_eq!(rt;
+        (PollAdd::CODE, PollRemove::CODE, SyncFileRange::CODE),
+        (6, 7, 8)
+    );
+    assert_eq!(rt;
+        (Timeout::CODE, TimeoutRemove::CODE, TimeoutUpdate::CODE),
+        (11, 12, 12)
+    );
+    assert_eq!(rt;
+        (AsyncCancel::CODE, LinkTimeout::CODE, Fallocate::CODE),
+        (14, 15, 17)
+    );
+    assert_eq!(rt;
+        (OpenAt::CODE, Close::CODE, FilesUpdate::CODE),
+        (18, 19, 20)
+    );
+    assert_eq!(rt; (Statx::CODE, Ftruncate::CODE), (21, 55));
+}
+
+/// Three buffers of a list, and a registered buffer, read from with all that there may be.
+#[test]
+fn words_of_other_reads(rt: HostRuntime) {
+    let read = Readv::new(Fd(5), 70, 3).ioprio(4).offset(80);
+    let words = Entry {
+        prio: 4,
+        fd: 5,
+        off: 80,
+        addr: 70,
+        len: 3,
+        op: 0xffff_ffff,
+        buf: 6,
+        ..Entry::blank(1)
+    };
+    assert_eq!(rt; read.rw_flags(-1).buf_group(6).build(), words);
+    let read = ReadFixed::new(Fixed(5), 70, 3, 9).ioprio(4).offset(80);
+    let words = Entry {
+        flags: 1,
+        prio: 4,
+        fd: 5,
+        off: 80,
+        addr: 70,
+        len: 3,
+        op: 2,
+        buf: 9,
+        ..Entry::blank(4)
+    };
+    assert_eq!(rt; read.rw_flags(2).build(), words);
+}
+
+/// The same for writes, to a stream.
+#[test]
+fn words_of_other_writes(rt: HostRuntime) {
+    let write = Writev::new(Fixed(5), 70, 3).ioprio(4).offset(80);
+    let words = Entry {
+        flags: 1,
+        prio: 4,
+        fd: 5,
+        off: 80,
+        addr: 70,
+        len: 3,
+        op: 2,
+        idx: 8,
+        ..Entry::blank(2)
+    };
+    assert_eq!(rt; write.rw_flags(2).write_stream(8).build(), words);
+    let write = WriteFixed::new(Fd(5), 70, 3, 9).ioprio(4).offset(80);
+    let words = Entry {
+        prio: 4,
+        fd: 5,
+        off: 80,
+        addr: 70,
+        len: 3,
+        op: 2,
+        buf: 9,
+        idx: 8,
+        ..Entry::blank(5)
+    };
+    assert_eq!(rt; write.rw_flags(2).write_stream(8).build(), words);
+}
+
+#[test]
+fn words_of_polls(rt: HostRuntime) {
+    let words = Entry {
+        flags: 1,
+        fd: 2,
+        op: 4,
+        ..Entry::blank(6)
+    };
+    assert_eq!(rt; PollAdd::new(Fixed(2), 4).build(), words);
+    let words = Entry { len: 1, ..words };
+    assert_eq!(rt; PollAdd::new(Fixed(2), 4).multi(true).build(), words);
+    let words = Entry {
+        fd: -1,
+        addr: 9,
+        ..Entry::blank(7)
+    };
+    assert_eq!(rt; PollRemove::new(9).build(), words);
+}
+
+#[test]
+fn words_of_timeouts(rt: HostRuntime) {
+    let words = Entry {
+        fd: -1,
+        off: 3,
+        addr: 70,
+        len: 1,
+        op: 1,
+        ..Entry::blank(11)
+    };
+    let timeout = Timeout::new(70).count(3).flags(TimeoutFlags::ABS);
+    assert_eq!(rt; timeout.build(), words);
+    let words = Entry {
+        fd: -1,
+        addr: 9,
+        ..Entry::blank(12)
+    };
+    assert_eq!(rt; TimeoutRemove::new(9).build(), words);
+    let words = Entry {
+        off: 70,
+        op: 18,
+        ..words
+    };
+    let update = TimeoutUpdate::new(9, 70).flags(TimeoutFlags::LINK_TIMEOUT_UPDATE);
+    assert_eq!(rt; update.build(), words);
+    let words = Entry {
+        fd: -1,
+        addr: 70,
+        len: 1,
+        op: 8,
+        ..Entry::blank(15)
+    };
+    let timeout = LinkTimeout::new(70).flags(TimeoutFlags::REALTIME);
+    assert_eq!(rt; timeout.build(), words);
+}
+
+#[test]
+fn words_of_ranges(rt: HostRuntime) {
+    let words = Entry {
+        fd: 3,
+        off: 4,
+        len: 5,
+        op: 6,
+        ..Entry::blank(8)
+    };
+    assert_eq!(rt;
+        SyncFileRange::new(Fd(3), 5).offset(4).flags(6).build(),
+        words
+    );
+    let words = Entry {
+        fd: 3,
+        off: 4,
+        addr: 5,
+        len: 6,
+        ..Entry::blank(17)
+    };
+    assert_eq!(rt; Fallocate::new(Fd(3), 5).offset(4).mode(6).build(), words);
+}
+
+/// A new file seen from the current directory, without a slot, and into the slots of index 3 and
+/// of the partner's choice.
+#[test]
+fn words_of_an_opening(rt: HostRuntime) {
+    let words = Entry {
+        fd: -100,
+        addr: 70,
+        len: 0o644,
+        op: 0o101,
+        ..Entry::blank(18)
+    };
+    let open = OpenAt::new(Fd(-100), 70).flags(0o101).mode(0o644);
+    assert_eq!(rt; open.build(), words);
+    let slot = DestinationSlot::try_from_slot_target(3).ok();
+    assert_eq!(rt; OpenAt::new(Fd(-100), 70).file_index(slot).build().idx, 4);
+    let slot = Some(DestinationSlot::auto_target());
+    assert_eq!(rt;
+        OpenAt::new(Fd(-100), 70).file_index(slot).build().idx,
+        0xffff_ffff
+    );
+}
+
+/// The registered file of index 4 is closed without its mark.
+#[test]
+fn words_of_closings(rt: HostRuntime) {
+    let entry = Close::new(Fixed(4)).build();
+    assert_eq!(rt; (entry.fd, entry.idx, entry.flag_bits()), (0, 5, 0));
+    let words = Entry {
+        fd: 7,
+        ..Entry::blank(19)
+    };
+    assert_eq!(rt; Close::new(Fd(7)).build(), words);
+}
+
+/// -2 stands in 64 bits.
+#[test]
+fn words_of_an_update_and_a_stat(rt: HostRuntime) {
+    let words = Entry {
+        fd: -1,
+        off: 0xffff_ffff_ffff_fffe,
+        addr: 70,
+        len: 3,
+        ..Entry::blank(20)
+    };
+    assert_eq!(rt; FilesUpdate::new(70, 3).offset(-2).build(), words);
+    let words = Entry {
+        fd: 6,
+        off: 80,
+        addr: 70,
+        len: 4095,
+        op: 0x1000,
+        ..Entry::blank(21)
+    };
+    let stat = Statx::new(Fd(6), 70, 80).flags(0x1000).mask(4095);
+    assert_eq!(rt; stat.build(), words);
 }

@@ -1,0 +1,34 @@
+-- Which operations a cancel means.
+use Rattle.std.specs.Prelude.{ℕ, ℤ, Option, Some, None}
+use Rattle.uring_entry.specs.declared.types.Target.{Target}
+use Rattle.uring_entry.specs.declared.types.Target.TheVariants.{Fd, Fixed}
+use Rattle.uring_entry.specs.Words.{no_fd, signed_of}
+
+-- the cancel's flags, and the user data or the target of what it means, where it asks for one
+pub record Cancel : Type 0 where
+  pub flags : ℕ
+  pub user_data : Option ℕ
+  pub fd : Option Target
+
+-- any operation
+abbrev pub any_operation : Cancel
+any_operation = record { flags = 4; user_data = None; fd = None }
+
+-- the operation with this user data
+abbrev pub with_user_data : ℕ → Cancel
+with_user_data user_data = record { flags = 0; user_data = Some user_data; fd = None }
+
+-- the flag of a cancel by its target, and for a registered file the flag of that beside it
+abbrev pub target_flags : Target → ℕ
+target_flags (Fd n) = 2
+target_flags (Fixed i) = 10
+
+-- the operation on this target
+abbrev pub on_target : Target → Cancel
+on_target target = record { flags = target_flags target; user_data = None; fd = Some target }
+
+-- the descriptor word of a cancel: that of its target, or -1
+abbrev pub target_word : Option Target → ℤ
+target_word None = no_fd
+target_word (Some (Fd n)) = n
+target_word (Some (Fixed i)) = signed_of i

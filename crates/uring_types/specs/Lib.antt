@@ -1,0 +1,5 @@
+pub mod Slots
+pub mod Cancel
+pub mod FlagBits
+pub mod New
+pub mod Messages
