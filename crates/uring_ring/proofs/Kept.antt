@@ -4,9 +4,11 @@ use Rattle.std.specs.Prelude.{slice_get, slice_set, MatchOption}
 use Rattle.std.specs.Option.{option_to_list}
 use Rattle.std.proofs.lemmas.List.{length-set}
 use Rattle.std.proofs.lemmas.Option.{slice_get_read}
-use Rattle.uring_ring.specs.Positions.{gap, window, Positions, AreWords, InOrder, IsSound, Held, held_in, Fits, is_ring_size, slot_of}
+use Rattle.ring_core.specs.Positions.{gap, is_ring_size, slot_of}
+use Rattle.ring_core.proofs.PositionLemmas.{le_or_lt, IsPower, size_power, power_pos, power_small, wrapped, apart, mod_more}
+use Rattle.uring_ring.specs.Positions.{window, Positions, AreWords, InOrder, IsSound, Held, held_in, Fits}
 use Rattle.uring_ring.specs.Slots.{with_put, with_tail, with_head_seen, with_head, with_tail_seen, Takes, opened}
-use Rattle.uring_ring.proofs.PositionLemmas.{le_or_lt, IsPower, size_power, power_pos, power_small, gap_self, gap_between, gap_next, gap_zero, gap_slot, next_lt, wrapped, apart, mod_more}
+use Rattle.uring_ring.proofs.PositionLemmas.{gap_self, gap_between, gap_next, gap_zero, gap_slot, next_lt}
 use Rattle.uring_ring.proofs.Windows.{window_none, window_other, window_same, window_split, window_short, filled_front, filled_back, behind, put_window, take_window}
 
 at_most_one : {T : Type 0} (o : Option T) → length (option_to_list o) ≤ 1

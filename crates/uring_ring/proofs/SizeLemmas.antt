@@ -4,9 +4,11 @@ use Rattle.std.specs.Prelude.{IfErr, ◌↔◌}
 use Rattle.std.proofs.Math.Nat.{pow-suc, mul_assoc, mul_comm, mul-le-mul_left}
 use Rattle.std.proofs.lemmas.Nat.{pow_pos}
 use Rattle.std.proofs.lemmas.Bool.{eq-eqb}
+use Rattle.std.specs.Prelude.{◌||◌, nat_eq}
 use Rattle.uring_entry.specs.Sizes.{up_from, rounded_up, is_valid_size}
-use Rattle.uring_ring.specs.Positions.{is_ring_size}
-use Rattle.uring_ring.proofs.PositionLemmas.{le_or_lt, up_from_power}
+use Rattle.ring_core.specs.Positions.{is_doubled, is_ring_size}
+use Rattle.ring_core.proofs.PositionLemmas.{le_or_lt}
+use Rattle.uring_ring.proofs.PositionLemmas.{up_from_power}
 
 at_once : (d p n : ℕ) → n ≤ p → up_from d p n ≡ p
 at_once zero p n h = refl
@@ -38,14 +40,23 @@ next_power n r (suc k) small e fits least =
     let few : suc k ≤ 16 = elim (le_or_lt 16 k) [ inl h ↦ let large : 65536 ≤ 2 ^ k = pow_mono h in omega arith | inr h ↦ omega arith ] in
     e ∙ omega arith ∙ sym (rounds_to 16 (suc k) 1 n few (omega (arith, e)) (λ j f. let same : j ≡ k = omega arith in omega (arith, ap (λ (x : ℕ). 2 ^ x) same)))
 
+or_right : (a b : Bool) → b ≡ true → (a || b) ≡ true
+or_right true b e = refl
+or_right false b e = e
+
+-- a power doubled as often as may be is found
+power_doubled : (d k p c : ℕ) → k ≤ d → c ≡ 2 ^ k * p → is_doubled d p c ≡ true
+power_doubled zero zero p c le e = eq-eqb c p (e ∙ omega arith)
+power_doubled zero (suc k) p c le e = absurd (omega arith)
+power_doubled (suc d) zero p c le e = ap (λ b. b || is_doubled d (2 * p) c) (eq-eqb c p (e ∙ omega arith))
+power_doubled (suc d) (suc k) p c le e = or_right (nat_eq c p) (is_doubled d (2 * p) c) (power_doubled d k (2 * p) c (omega arith) (e ∙ ap (λ x. x * p) (pow-suc 2 k) ∙ mul_assoc (2 ^ k) 2 p))
+
 -- what rounding gives is a size
 pub rounded_size : (n : ℕ) → is_ring_size (rounded_up n) ≡ true
 unfolding is_ring_size
 rounded_size n =
     let found : (k : ℕ) × ((k ≤ 16) × (up_from 16 1 n ≡ 2 ^ k * 1)) = up_from_power 16 1 n in
-    let value : rounded_up n ≡ 2 ^ found.0 = found.1.1 ∙ omega arith in
-    let again : rounded_up (2 ^ found.0) ≡ 2 ^ found.0 = rounds_to 16 found.0 1 (2 ^ found.0) found.1.0 (omega arith) (λ j f. let double : 2 ^ found.0 ≡ 2 ^ j * 2 = ap (λ (x : ℕ). 2 ^ x) (sym f) ∙ pow-suc 2 j in let pos : 0 < 2 ^ j = pow_pos j in omega arith) ∙ omega arith in
-    eq-eqb (rounded_up (rounded_up n)) (rounded_up n) (ap (λ (x : ℕ). rounded_up x) value ∙ again ∙ sym value)
+    power_doubled 16 found.0 1 (rounded_up n) found.1.0 found.1.1
 
 -- one doubling more changes nothing where there were enough
 enough : (d p n : ℕ) → n ≤ 2 ^ d * p → up_from (suc d) p n ≡ up_from d p n
@@ -140,8 +151,8 @@ pub invalid_default : (n : ℕ) → (n ≡ 0) ⊎ (32768 < n) → is_valid_size 
 invalid_default n (inl e) = bad_entries n (2 * n) (grind arith)
 invalid_default n (inr lt) = bad_entries n (2 * n) (grind arith)
 
-pub default_iff : (A : Type 0) (n m : ℕ) → m ≡ 2 * n → (A ↔ (is_valid_size n m ≡ false)) → (A ↔ ((n ≡ 0) ⊎ (32768 < n)))
-default_iff A n m e both = let same : is_valid_size n m ≡ is_valid_size n (2 * n) = ap (λ (x : ℕ). is_valid_size n x) e in (λ a. default_invalid n (sym same ∙ both.0 a), λ wrong. both.1 (same ∙ invalid_default n wrong))
+pub default_iff : (A : Type 0) (n : ℕ) (v : Bool) → v ≡ is_valid_size n (2 * n) → (A ↔ (v ≡ false)) → (A ↔ ((n ≡ 0) ⊎ (32768 < n)))
+default_iff A n v same both = (λ a. default_invalid n (sym same ∙ both.0 a), λ wrong. both.1 (same ∙ invalid_default n wrong))
 
 pub if_err : {A E : Type 0} (r : Result A E) (P Q : E → Type 0) → IfErr r P → ((e : E) → P e → Q e) → IfErr r Q
 if_err (Ok x) P Q fact f = fact

@@ -4,7 +4,7 @@ use Rattle.std.specs.Prelude.{slice_get, slice_set}
 use Rattle.std.specs.Option.{option_and_then, option_to_list}
 use Rattle.std.proofs.lemmas.List.{length-set}
 use Rattle.uring_ring.specs.Positions.{held_at, window}
-use Rattle.uring_ring.proofs.PositionLemmas.{apart, mod_more}
+use Rattle.ring_core.proofs.PositionLemmas.{apart, mod_more}
 
 pub window_none : {T : Type 0} (slots : List (Option T)) (p : ℕ) → window slots p 0 ≡ []
 unfolding window

@@ -3,9 +3,10 @@
 ghost use Rattle.std.specs.Prelude.{◌≡◌, ◌≤◌, length};
 ghost use Rattle.uring_ring.specs.Slots.{held_of};
 
-use crate::setup::{Builder, Parameters, SetupError};
+use crate::setup::{Builder, FEATURES, Parameters};
 use crate::sides::{PartnerSide, Rings, UserEnds};
 use crate::slots::Slots;
+use ring_core::SetupError;
 use std::alloc::{AllocError, Global};
 use uring_entry::squeue::Entry;
 use uring_entry::{Completion, Loan, Taken};
@@ -31,7 +32,7 @@ pub struct IoUring {
 impl IoUring {
     ghost use Rattle.std.specs.Prelude.{◌*◌, ◌<◌, ◌↔◌, true, IfOk, IfErr};
     ghost use Rattle.uring_entry.specs.Sizes.{rounded_up};
-    ghost use Rattle.uring_ring.specs.Positions.{is_ring_size};
+    ghost use Rattle.ring_core.specs.Positions.{is_ring_size};
     ghost use Rattle.uring_ring.specs.Setup.{default_builder, parameters_for, IsInvalidCount};
     ghost use Rattle.uring_ring.specs.IoUring.{IsOpened, parameters_of};
 
@@ -40,8 +41,14 @@ impl IoUring {
         ensures { result ≡ default_builder }
     {
         Builder {
+            setup: 0,
+            features: FEATURES,
             cq_entries: None,
             start: 0,
+            sq_thread_idle: 0,
+            sq_thread_cpu: 0,
+            wq_fd: 0,
+            dontfork: false,
         }
     }
 
@@ -100,12 +107,12 @@ impl IoUring {
 impl Builder {
     ghost use Rattle.std.specs.Prelude.{◌↔◌, true, false, IfOk, IfErr};
     ghost use Rattle.uring_entry.specs.Sizes.{rounded_up};
-    ghost use Rattle.uring_ring.specs.Setup.{is_buildable, parameters_for, asked_completions, start_of};
+    ghost use Rattle.uring_ring.specs.Setup.{is_buildable, parameters_for, asked_entries, asked_completions, start_of};
     ghost use Rattle.uring_ring.specs.IoUring.{IsOpened, parameters_of};
 
     /// Makes a ring.
     pub fn build(&self, alloc: Global, entries: u32) -> Result<IoUring, SetupError>
-        ensures ok { IfOk result (λ ring. IsOpened ring (rounded_up entries) (rounded_up (asked_completions self.now entries)) (start_of self.now)) }
+        ensures ok { IfOk result (λ ring. IsOpened ring (rounded_up (asked_entries self.now entries)) (rounded_up (asked_completions self.now entries)) (start_of self.now)) }
         ensures parameters { IfOk result (λ ring. parameters_of ring ≡ parameters_for self.now entries) }
         ensures valid { IfOk result (λ _. is_buildable self.now entries ≡ true) }
         ensures invalid { IfErr result (λ error. (error ≡ SetupError.Invalid) ↔ (is_buildable self.now entries ≡ false)) }

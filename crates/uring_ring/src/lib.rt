@@ -7,7 +7,8 @@ mod sides;
 mod slots;
 
 pub use io_uring::IoUring;
-pub use setup::{Builder, Parameters, SetupError};
+pub use ring_core::{Core, CoreAnswer, CoreAnswers, CoreStep, SetupError};
+pub use setup::{Builder, Parameters};
 pub use sides::{PartnerSide, Rings, UserEnds};
 
 #[cfg(test)]

@@ -5,8 +5,10 @@
 //! it last saw it.
 
 ghost use Rattle.std.specs.Prelude.{◌≡◌, ◌+◌, ◌<◌, ◌≤◌, ◌↔◌, length, IsTrue, IfOk, true, MatchOption};
-ghost use Rattle.uring_ring.specs.Positions.{IsSound, Fits, held_in, is_ring_size, gap, slot_of};
+ghost use Rattle.ring_core.specs.Positions.{is_ring_size};
+ghost use Rattle.uring_ring.specs.Positions.{IsSound, Fits, held_in};
 
+use ring_core::{gap, slot_of};
 use std::alloc::{AllocError, Global};
 
 /// The slots and the six positions.
@@ -22,22 +24,6 @@ pub(crate) struct Slots<T> {
     next_put: u32,
     ghost sound: { IsSound slots.items capacity (record { head_seen = head_seen; head = head; next_take = next_take; tail_seen = tail_seen; tail = tail; next_put = next_put }) },
     ghost fits: { Fits (held_in slots.items capacity (record { head_seen = head_seen; head = head; next_take = next_take; tail_seen = tail_seen; tail = tail; next_put = next_put })) },
-}
-
-/// How far the later position lies behind the earlier one.
-fn gap(earlier: u32, later: u32) -> u32
-    ensures { result ≡ gap earlier later }
-{
-    later.wrapping_sub(earlier)
-}
-
-/// The slot of a position.
-fn slot_of(capacity: u32, position: u32) -> usize
-    requires { is_ring_size capacity ≡ true }
-    ensures slot { result ≡ slot_of capacity position }
-    ensures within { result < capacity }
-{
-    (position & (capacity - 1)) as usize
 }
 
 /// Slots that hold nothing.

@@ -171,6 +171,27 @@ fn size_rule(rt: HostRuntime) {
     assert_eq!(rt; sizes(32769, Some(65536)), Err(SetupError::Invalid));
 }
 
+/// Counts above their maximum are cut where that is asked for, and no others.
+#[test]
+fn counts_are_cut(rt: HostRuntime) -> Result<(), Fail> {
+    let mut builder = IoUring::builder();
+    builder.setup_clamp();
+    let largest = builder.parameters(4294967295)?;
+    assert_eq!(rt;
+        (largest.sq_entries(), largest.cq_entries()),
+        (32768, 65536)
+    );
+    assert_eq!(rt; builder.parameters(0).err(), Some(SetupError::Invalid));
+    builder.setup_cqsize(70000);
+    assert_eq!(rt; builder.parameters(3)?.cq_entries(), 65536);
+    builder.setup_cqsize(2);
+    assert_eq!(rt; builder.parameters(3).err(), Some(SetupError::Invalid));
+    builder.setup_cqsize(0);
+    assert_eq!(rt; builder.parameters(3).err(), Some(SetupError::Invalid));
+    Ok(())
+}
+
+/// A ring with no bit asked for has all features, and none of the setup bits.
 #[test]
 fn bits_of_parameters(rt: HostRuntime) -> Result<(), Fail> {
     let alloc = rt.alloc();
@@ -178,9 +199,60 @@ fn bits_of_parameters(rt: HostRuntime) -> Result<(), Fail> {
     let parameters = ring.params();
     assert!(rt; !parameters.is_setup_sqpoll());
     assert!(rt; !parameters.is_setup_iopoll());
+    assert!(rt; !parameters.is_setup_single_issuer());
+    assert!(rt; parameters.is_feature_single_mmap());
     assert!(rt; parameters.is_feature_nodrop());
+    assert!(rt; parameters.is_feature_submit_stable());
+    assert!(rt; parameters.is_feature_rw_cur_pos());
+    assert!(rt; parameters.is_feature_cur_personality());
+    assert!(rt; parameters.is_feature_fast_poll());
+    assert!(rt; parameters.is_feature_poll_32bits());
+    assert!(rt; parameters.is_feature_sqpoll_nonfixed());
+    assert!(rt; parameters.is_feature_ext_arg());
+    assert!(rt; parameters.is_feature_native_workers());
+    assert!(rt; parameters.is_feature_resource_tagging());
+    assert!(rt; parameters.is_feature_skip_cqe_on_success());
+    assert!(rt; parameters.is_feature_linked_file());
+    assert!(rt; parameters.is_feature_reg_reg_ring());
+    assert!(rt; parameters.is_feature_recvsend_bundle());
+    assert!(rt; parameters.is_feature_min_timeout());
+    assert!(rt; parameters.is_feature_no_iowait());
     assert_eq!(rt; parameters.sq_entries(), 4);
+    assert_eq!(rt; parameters.sq_thread_idle(), 0);
     assert_eq!(rt; parameters.cq_entries(), 8);
+    Ok(())
+}
+
+/// Each setter is called once; what can be read of it is read.
+#[test]
+fn bits_of_builders(rt: HostRuntime) -> Result<(), Fail> {
+    let alloc = rt.alloc();
+    let mut builder = IoUring::builder();
+    builder
+        .dontfork()
+        .setup_iopoll()
+        .setup_sqpoll(2000)
+        .setup_sqpoll_cpu(1)
+        .setup_clamp()
+        .setup_attach_wq(3)
+        .setup_r_disabled()
+        .setup_submit_all()
+        .setup_coop_taskrun()
+        .setup_taskrun_flag();
+    builder
+        .setup_defer_taskrun()
+        .setup_single_issuer()
+        .setup_no_sqarray()
+        .features(2);
+    let ring = builder.build(alloc, 3)?;
+    let parameters = ring.params();
+    assert!(rt; parameters.is_setup_sqpoll());
+    assert!(rt; parameters.is_setup_iopoll());
+    assert!(rt; parameters.is_setup_single_issuer());
+    assert_eq!(rt; parameters.sq_thread_idle(), 2000);
+    assert!(rt; parameters.is_feature_nodrop());
+    assert!(rt; !parameters.is_feature_single_mmap());
+    assert!(rt; !parameters.is_feature_no_iowait());
     Ok(())
 }
 
@@ -194,15 +266,5 @@ fn flags_of_the_partner(rt: HostRuntime) -> Result<(), Fail> {
     ring.add_dropped();
     ring.add_overflow();
     assert_eq!(rt; ring.sq_flags(), 5);
-    Ok(())
-}
-
-#[test]
-fn texts_of_setup_errors(rt: HostRuntime) -> Result<(), Fail> {
-    let alloc = rt.alloc();
-    let invalid = format!(in alloc; "{}", SetupError::Invalid)?;
-    assert_eq!(rt; invalid.as_str(), "invalid ring size");
-    let no_memory = format!(in alloc; "{}", SetupError::NoMemory)?;
-    assert_eq!(rt; no_memory.as_str(), "no memory");
     Ok(())
 }

@@ -5,4 +5,4 @@ use Rattle.uring_ring.proofs.slots.Slots.published.Goals as goal
 
 pub returns : goal.returns
 unfolding held_of
-returns g c = c.gap.ensures ∙ sym (counts _ _ _ c.args.self.now.sound).0
+returns g c = c.gap.ensures.word ∙ sym (counts _ _ _ c.args.self.now.sound).0

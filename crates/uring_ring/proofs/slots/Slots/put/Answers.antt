@@ -1,5 +1,5 @@
 use Rattle.std.proofs.Common.{◌-◌, ◌<◌, arith, refl, ◌∙◌, ◌%◌, ◌≡◌}
-use Rattle.uring_ring.specs.Positions.{slot_of, gap}
+use Rattle.ring_core.specs.Positions.{slot_of, gap}
 use Rattle.uring_ring.specs.Slots.{held_of}
 use Rattle.uring_ring.proofs.Kept.{fits, put_kept}
 use Rattle.uring_ring.proofs.slots.Slots.put.Goals as goal

@@ -1,0 +1,4 @@
+pub mod Kept
+pub mod LawProofs
+pub mod PositionLemmas
+pub mod Words
