@@ -31,11 +31,7 @@ fn assert_gives(
 }
 
 /// Asserts that the sync is done now, with this answer.
-fn assert_ends(
-    rt: &impl Abort,
-    polled: Poll<Result<(), FsError>>,
-    answer: Result<(), FsError>,
-) {
+fn assert_ends(rt: &impl Abort, polled: Poll<Result<(), FsError>>, answer: Result<(), FsError>) {
     match polled {
         Poll::Ready(given) => assert_eq!(rt; given, answer),
         Poll::Pending => assert!(rt; false, "pending"),
@@ -162,16 +158,8 @@ fn syncs_that_fail(rt: HostRuntime) -> Result<(), Fail> {
     assert_ends(&rt, polled, Err(FsError::KeyInUse));
     let mut third = file.sync_all();
     assert!(rt; third.poll(alloc, &mut engine).is_pending());
-    assert_ends(
-        &rt,
-        third.poll(alloc, &mut other),
-        Err(FsError::KeyLost),
-    );
+    assert_ends(&rt, third.poll(alloc, &mut other), Err(FsError::KeyLost));
     assert!(rt; engine.turn(alloc, &mut partner).is_ok());
-    assert_ends(
-        &rt,
-        first.poll(alloc, &mut engine),
-        Err(FsError::Os(9)),
-    );
+    assert_ends(&rt, first.poll(alloc, &mut engine), Err(FsError::Os(9)));
     Ok(())
 }

@@ -1,5 +1,5 @@
 -- Files and choices that are put into a partner one after the other.
-use Rattle.std.proofs.Common.{◌≡◌, ◌⊎◌, inl, inr, ℕ, List, [], ◌∷◌, ◌++◌, Option, Some, None, IfSome, refl, ap, sym, subst, ◌∙◌, append_assoc, append-nil}
+use Rattle.std.proofs.Common.{◌≡◌, ◌⊎◌, inl, inr, ℕ, List, [], ◌∷◌, ◌++◌, Result, Ok, Err, OnErr, Option, Some, None, IfSome, refl, ap, sym, subst, ◌∙◌, append_assoc, append-nil}
 use Rattle.std.specs.FinMap.{insert}
 use Rattle.uring_entry.specs.declared.events.LogEvent.{LogEvent}
 use Rattle.uring_model.specs.Machine.{Files}
@@ -38,7 +38,7 @@ one_more_file log state plan front seed before now next so step logs plans = rec
 pub one_more_choice : {P : Type 0} (log : P → Option (List LogEvent)) (state : P → Option PartnerState) (plan : P → List ℕ) (front : List ℕ) (choice : ℕ) (before now next : P)
     → IsSeeded log state plan [] front before now → StateBecomes (state now) (with_choice choice) (state next) → log next ≡ log now → plan next ≡ plan now → IsSeeded log state plan [] (front ++ choice ∷ []) before next
 one_more_choice log state plan front choice before now next so step logs plans = record {
-  gains = becomes_then (state before) (state now) (state next) (seeded [] front) (with_choice choice) (seeded [] (front ++ choice ∷ [])) (λ a. ap (λ c. record a { choices = c }) (sym (append_assoc a.choices front (choice ∷ [])))) so.gains step;
+  gains = becomes_then (state before) (state now) (state next) (seeded [] front) (with_choice choice) (seeded [] (front ++ choice ∷ [])) (λ a. ap (λ c. record a { choices = c }) (append_assoc a.choices front (choice ∷ []))) so.gains step;
   logs = logs ∙ so.logs;
   plans = plans ∙ so.plans;
 }
@@ -94,3 +94,8 @@ moved_over all front rest rest' x whole next = whole ∙ ap (λ l. front ++ l) n
 pub still_calm : (E : Type 0) (seeds : List Seed) (choices : List ℕ) (before now : Option PartnerState) (first count next : ℕ) → StateBecomes before (seeded seeds choices) now → IfSome before (λ _. count ≡ first) → IfSome now (λ _. E × (next ≡ count)) → IfSome before (λ _. next ≡ first)
 still_calm E seeds choices None now first count next so calm step = tt
 still_calm E seeds choices (Some a) now first count next so calm step = (subst (λ s. IfSome s (λ _. E × (next ≡ count))) so step).1 ∙ calm
+
+-- what a refusal leaves, by what it leaves of a part
+pub on_refusal : {A E : Type 0} (r : Result A E) (P Q : Type 0) → (P → Q) → OnErr r P → OnErr r Q
+on_refusal (Ok a) P Q f h = tt
+on_refusal (Err e) P Q f h = f h

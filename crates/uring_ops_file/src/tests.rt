@@ -29,6 +29,27 @@ fn words_of_a_read(rt: HostRuntime) {
     assert_eq!(rt; Read::new(Fd(5), 7, 1024).build().user_data(0x42), words);
 }
 
+/// The same entry in its 64 bytes, the lowest of each word first.
+#[test]
+fn bytes_of_a_read(rt: HostRuntime) {
+    let bytes = Read::new(Fd(5), 7, 1024).build().user_data(0x42).to_bytes();
+    let mut wanted = [0; 64];
+    wanted[..8].copy_from_slice(&[0x16, 0, 0, 0, 5, 0, 0, 0]);
+    wanted[16] = 7;
+    wanted[25] = 4;
+    wanted[32] = 0x42;
+    assert_eq!(rt; bytes, wanted);
+}
+
+/// The last number that an entry is given stands in it.
+#[test]
+fn numbers(rt: HostRuntime) {
+    let mut nop = Nop::new().build().user_data(1);
+    assert_eq!(rt; nop.get_user_data(), 1);
+    nop.set_user_data(2);
+    assert_eq!(rt; nop.get_user_data(), 2);
+}
+
 /// A Read of a registered file with all that it may have.
 #[test]
 fn words_of_a_whole_read(rt: HostRuntime) {

@@ -1,10 +1,9 @@
 -- All pending entries are ready where none has a link or a drain.
-use Rattle.std.specs.Prelude.{◌≡◌, ℕ, ◌+◌, ◌-◌, ◌<◌, ◌/◌, ◌%◌, zero, suc, Bool, true, false, ◌&&◌, ◌||◌, not, cond, List, [], ◌∷◌, ◌++◌, length, Some, slice_get, refl}
+use Rattle.std.specs.Prelude.{◌≡◌, ℕ, ◌+◌, ◌<◌, ◌/◌, ◌%◌, zero, suc, Bool, true, false, ◌&&◌, ◌||◌, not, cond, List, [], ◌∷◌, ◌++◌, length, Some, slice_get, refl}
 use Rattle.std.proofs.lemmas.List.Sums.{sum_by-cons}
-use Rattle.std.proofs.Common.{ap, sym, subst, ◌∙◌, arith, length-append}
+use Rattle.std.proofs.Common.{ap, sym, ◌∙◌, arith, length-append}
 use Rattle.uring_model.specs.declared.pending.Pending.{Pending}
 use Rattle.uring_model.specs.Jobs.{linked}
-use Rattle.uring_model.specs.Replay.{keep_if}
 use Rattle.uring_model.specs.Partner.{Cursor, job_of, held, no_drain, is_nil, is_ready, ready_cursors, named}
 use Rattle.uring_partner.specs.Bound.{bound_in, is_bound}
 use Rattle.uring_partner.proofs.Ready.{held-append, drain-append, kept}

@@ -201,12 +201,7 @@ impl MemoryPartner {
         self.log.try_reserve(1)?;
         let place = chosen_place(&self.pending, self.next_choice());
         let mut item = self.pending.take_out(place);
-        match settle(
-            alloc,
-            &mut self.files,
-            &self.pending.items,
-            &mut item,
-        ) {
+        match settle(alloc, &mut self.files, &self.pending.items, &mut item) {
             Err(error) => {
                 self.pending.put_back(place, item);
                 Err(error)

@@ -1,6 +1,6 @@
 //! A script, by hand.
 
-use crate::{EnterCall, HostilePartner, LoanPlan, Partner, Scripted};
+use crate::{EnterCall, HostilePartner, LoanPlan, Partner, Scripted, Seedable};
 use std::process::Abort;
 use std::test::Fail;
 use uring_entry::squeue::Entry;
@@ -87,5 +87,20 @@ fn posts_its_script(rt: HostRuntime) -> Result<(), Fail> {
     reap(&rt, &mut ring, 1, 0, None);
     reap(&rt, &mut ring, 2, 0, None);
     assert_eq!(rt; partner.enter(alloc, &CALL, &mut ring)?, 0);
+    Ok(())
+}
+
+/// Files and choices that it is given change nothing that it does.
+#[test]
+fn takes_no_files_and_choices(rt: HostRuntime) -> Result<(), Fail> {
+    let alloc = rt.alloc();
+    let mut partner = HostilePartner::new(alloc, Vec::new(alloc));
+    let mut ring = IoUring::new(alloc, 1)?;
+    partner.put_file(alloc, 1, Buf::from_slice(alloc, b"ab")?)?;
+    partner.add_choice(alloc, 3)?;
+    assert_eq!(rt; partner.enter(alloc, &CALL, &mut ring)?, 0);
+    ring.refresh();
+    assert!(rt; ring.reap().is_none());
+    assert_eq!(rt; partner.log_len(), 1);
     Ok(())
 }
