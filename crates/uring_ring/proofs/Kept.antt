@@ -66,6 +66,10 @@ module _ {T : Type 0} (slots : List (Option T)) (c : ℕ) (at : Positions) (s : 
       let turn : window slots (at.next_take + gap at.next_take at.tail) (gap at.tail at.next_put) ≡ window slots at.tail (gap at.tail at.next_put) = window_same slots (at.next_take + gap at.next_take at.tail) at.tail (gap at.tail at.next_put) (sym (slot_on at.next_take at.tail s.words.next_take s.words.tail) ∙ ap (λ (q : ℕ). at.tail % q) (sym s.long)) in
       (filled_front slots at.next_take _ _ whole, ap length (sym turn) ∙ filled_back slots at.next_take _ _ whole)
 
+  -- as far as the published positions lie apart, so many items were taken or wait
+  pub settled : gap at.head at.tail ≡ gap at.head at.next_take + length (window slots at.next_take (gap at.next_take at.tail))
+  settled = let d = far in let n = counts in omega (arith, n.0, d.head_take, d.take_tail, d.head_tail)
+
   pub fits : Fits (held_in slots c at)
   fits = let d = far in let o = s.order in let n = counts in record {
     items = omega (arith, n.0, n.1, o.next_put, o.tail, o.tail_seen, o.next_take, o.head);

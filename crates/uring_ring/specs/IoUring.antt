@@ -3,30 +3,31 @@ use Rattle.std.specs.Prelude.{◌≡◌, ℕ, ◌+◌, List, [], length, min}
 use Rattle.uring_entry.specs.declared.events.Taken.{Taken}
 use Rattle.uring_entry.specs.declared.events.Completion.{Completion}
 use Rattle.uring_entry.specs.Completions.{without_big}
+use Rattle.std.specs.Borrow.{Lends, MutBor, Fml}
 use Rattle.uring_ring.specs.declared.io_uring.IoUring.{IoUring}
 use Rattle.uring_ring.specs.declared.setup.Parameters.{Parameters}
+use Rattle.uring_ring.specs.declared.submission_ring.SubmissionRing.{SubmissionRing}
+use Rattle.uring_ring.specs.declared.submission_ring.SubmissionWords.{SubmissionWords}
+use Rattle.uring_ring.specs.declared.completion_ring.CompletionRing.{CompletionRing}
+use Rattle.uring_ring.specs.declared.completion_ring.CompletionWords.{CompletionWords}
+use Rattle.uring_ring.specs.contracts.io_uring.IoUring as io_uring
+use Rattle.uring_ring.specs.contracts.submission_ring.SubmissionRing as submission_ring
+use Rattle.uring_ring.specs.contracts.completion_ring.CompletionRing as completion_ring
 use Rattle.uring_ring.specs.Positions.{Held}
 use Rattle.uring_ring.specs.Slots.{held_of}
-use Rattle.uring_ring.specs.Lists.{Lists, Moves, Uses, Advances}
+use Rattle.uring_ring.specs.Lists.{Lists, lists_between, Moves, Uses, Advances}
 
 abbrev pub entries_in : IoUring → Held Taken
-entries_in ring = held_of ring.entries
+entries_in ring = held_of ring.submissions.slots
 
 abbrev pub completions_in : IoUring → Held Completion
-completions_in ring = held_of ring.completions
+completions_in ring = held_of ring.completions.slots
 
 abbrev pub parameters_of : IoUring → Parameters
 parameters_of ring = ring.parameters
 
 abbrev pub lists_of : IoUring → Lists
-lists_of ring = record {
-  capacity = (entries_in ring).capacity;
-  published = (entries_in ring).published;
-  pushed = (entries_in ring).pushed;
-  completion_capacity = (completions_in ring).capacity;
-  completions = (completions_in ring).published;
-  held = (completions_in ring).taken;
-}
+lists_of ring = lists_between (entries_in ring) (completions_in ring)
 
 -- the words beside the two rings
 pub record Words : Type 0 where
@@ -36,9 +37,16 @@ pub record Words : Type 0 where
   pub dropped : ℕ
   -- how many completions couldn't be posted
   pub overflow : ℕ
+  -- the flags that the user sets beside the completions
+  pub completion_flags : ℕ
 
 abbrev pub words_of : IoUring → Words
-words_of ring = record { flags = ring.flags; dropped = ring.dropped; overflow = ring.overflow }
+words_of ring = record {
+  flags = ring.submissions.words.flags;
+  dropped = ring.submissions.words.dropped;
+  overflow = ring.completions.words.overflow;
+  completion_flags = ring.completions.words.flags;
+}
 
 -- one more, as far as 32 bits tell
 abbrev pub one_more : ℕ → ℕ
@@ -49,6 +57,9 @@ pub record RingMoves (before : IoUring) (ts : List Taken) (cs : List Completion)
   pub lists : Moves without_big (lists_of before) ts cs (lists_of after)
   pub offer_place : (entries_in after).put_place ≡ (entries_in before).put_place
   pub reap_place : (completions_in after).take_place ≡ (completions_in before).take_place
+  -- what the user has seen
+  pub room : (entries_in after).spare ≡ (entries_in before).spare
+  pub waiting : (completions_in after).waiting ≡ (completions_in before).waiting
   pub parameters : parameters_of after ≡ parameters_of before
 
 -- these entries were offered and these completions reaped
@@ -56,6 +67,9 @@ pub record RingUses (before : IoUring) (ts : List Taken) (cs : List Completion) 
   pub lists : Uses (lists_of before) ts cs (lists_of after)
   pub offer_place : Advances (entries_in before).put_place (length ts) (entries_in after).put_place
   pub reap_place : Advances (completions_in before).take_place (length cs) (completions_in after).take_place
+  -- what the partner has seen
+  pub ready : (entries_in after).waiting ≡ (entries_in before).waiting
+  pub space : (completions_in after).spare ≡ (completions_in before).spare
   pub parameters : parameters_of after ≡ parameters_of before
   pub words : words_of after ≡ words_of before
 
@@ -68,4 +82,18 @@ pub record IsOpened (ring : IoUring) (capacity completion_capacity start : ℕ) 
   pub space : (completions_in ring).spare ≡ completion_capacity
   pub offer_place : (entries_in ring).put_place ≡ start
   pub reap_place : (completions_in ring).take_place ≡ start
-  pub words : words_of ring ≡ record { flags = 0; dropped = 0; overflow = 0 }
+  pub words : words_of ring ≡ record { flags = 0; dropped = 0; overflow = 0; completion_flags = 0 }
+
+-- the words of one of its rings, and of the other
+abbrev pub submission_words_in : IoUring → SubmissionWords
+submission_words_in ring = ring.submissions.words
+
+abbrev pub completion_words_in : IoUring → CompletionWords
+completion_words_in ring = ring.completions.words
+
+-- the ring ends with its submission ring, or its completion ring, as it is left behind the reference
+abbrev pub LendsSubmissions : MutBor IoUring → MutBor SubmissionRing → Fml
+LendsSubmissions ring lent = Lends io_uring.the_row submission_ring.the_row ring lent (λ left. record ring.now { submissions = left })
+
+abbrev pub LendsCompletions : MutBor IoUring → MutBor CompletionRing → Fml
+LendsCompletions ring lent = Lends io_uring.the_row completion_ring.the_row ring lent (λ left. record ring.now { completions = left })

@@ -4,8 +4,12 @@ use Rattle.std.proofs.Math.Nat.{add-mod}
 use Rattle.uring_entry.specs.declared.events.Taken.{Taken}
 use Rattle.uring_entry.specs.declared.events.Completion.{Completion}
 use Rattle.uring_ring.specs.declared.slots.Slots.{Slots}
+use Rattle.uring_ring.specs.declared.submission_ring.SubmissionRing.{SubmissionRing}
+use Rattle.uring_ring.specs.declared.completion_ring.CompletionRing.{CompletionRing}
+use Rattle.uring_ring.specs.declared.plain_side.PlainSide.{PlainSide}
+use Rattle.uring_ring.specs.PlainSide.{SideMoves, side_lists}
 use Rattle.uring_ring.specs.declared.io_uring.IoUring.{IoUring}
-use Rattle.uring_ring.specs.Lists.{Lists, HasRoom, Moves, Uses, Advances}
+use Rattle.uring_ring.specs.Lists.{Lists, lists_between, HasRoom, Moves, Uses, Advances}
 use Rattle.uring_ring.specs.Positions.{Fits}
 use Rattle.uring_ring.specs.Slots.{held_of}
 use Rattle.uring_ring.specs.IoUring.{lists_of, entries_in, completions_in, RingMoves, RingUses}
@@ -14,16 +18,19 @@ pub held-fits : {T : Type 0} (ring : Slots T) → Fits (held_of ring)
 unfolding held_of
 held-fits ring = ring.fits
 
-pub has_room : (ring : IoUring) → HasRoom (lists_of ring)
-has_room ring =
-    let e = held-fits ring.entries in
-    let c = held-fits ring.completions in
+pub has_room_between : (entries : SubmissionRing) (completions : CompletionRing) → HasRoom (lists_between (held_of entries.slots) (held_of completions.slots))
+has_room_between entries completions =
+    let e = held-fits entries.slots in
+    let c = held-fits completions.slots in
     record {
       entries = omega (arith, e.items);
       completions = omega (arith, c.items);
-      small = ring.small;
+      small = entries.small;
       completions_small = c.capacity;
     }
+
+pub has_room : (ring : IoUring) → HasRoom (lists_of ring)
+has_room ring = has_room_between ring.submissions ring.completions
 
 pub Moves-none : (kept : Completion → Completion) (l : Lists) → Moves kept l [] [] l
 Moves-none kept l = record { taken = refl; posted = sym (append-nil l.completions); pushed = refl; capacity = refl; completion_capacity = refl; held = refl }
@@ -62,24 +69,47 @@ Advances-then p q r ts us f g =
     g ∙ add-mod q (length us) (2 ^ 32) ∙ ap (λ (x : ℕ). (x + length us % 2 ^ 32) % 2 ^ 32) f ∙ sym (add-mod (p + length ts) (length us) (2 ^ 32)) ∙ ap (λ (x : ℕ). x % 2 ^ 32) sum
 
 pub RingMoves-none : (a : IoUring) → RingMoves a [] [] a
-RingMoves-none a = record { lists = Moves-none _ (lists_of a); offer_place = refl; reap_place = refl; parameters = refl }
+RingMoves-none a = record { lists = Moves-none _ (lists_of a); offer_place = refl; reap_place = refl; room = refl; waiting = refl; parameters = refl }
 
 pub RingMoves-then : (a b c : IoUring) (ts us : List Taken) (cs ds : List Completion) → RingMoves a ts cs b → RingMoves b us ds c → RingMoves a (ts ++ us) (cs ++ ds) c
 RingMoves-then a b c ts us cs ds p q = record {
   lists = Moves-then _ (lists_of a) (lists_of b) (lists_of c) ts us cs ds p.lists q.lists;
   offer_place = q.offer_place ∙ p.offer_place;
   reap_place = q.reap_place ∙ p.reap_place;
+  room = q.room ∙ p.room;
+  waiting = q.waiting ∙ p.waiting;
   parameters = q.parameters ∙ p.parameters;
 }
 
 pub RingUses-none : (a : IoUring) → RingUses a [] [] a
-RingUses-none a = record { lists = Uses-none (lists_of a); offer_place = Advances-none _; reap_place = Advances-none _; parameters = refl; words = refl }
+RingUses-none a = record { lists = Uses-none (lists_of a); offer_place = Advances-none _; reap_place = Advances-none _; ready = refl; space = refl; parameters = refl; words = refl }
 
 pub RingUses-then : (a b c : IoUring) (ts us : List Taken) (cs ds : List Completion) → RingUses a ts cs b → RingUses b us ds c → RingUses a (ts ++ us) (cs ++ ds) c
 RingUses-then a b c ts us cs ds p q = record {
   lists = Uses-then (lists_of a) (lists_of b) (lists_of c) ts us cs ds p.lists q.lists;
   offer_place = Advances-then (entries_in a).put_place (entries_in b).put_place (entries_in c).put_place ts us p.offer_place q.offer_place;
   reap_place = Advances-then (completions_in a).take_place (completions_in b).take_place (completions_in c).take_place cs ds p.reap_place q.reap_place;
+  ready = q.ready ∙ p.ready;
+  space = q.space ∙ p.space;
   parameters = q.parameters ∙ p.parameters;
   words = q.words ∙ p.words;
 }
+
+pub SideMoves-none : (a : PlainSide) → SideMoves a [] [] a
+SideMoves-none a = record { lists = Moves-none _ (side_lists a); offer_place = refl; reap_place = refl; room = refl; waiting = refl; submissions = refl; completions = refl; entries_lent = refl; completions_lent = refl }
+
+pub SideMoves-then : (a b c : PlainSide) (ts us : List Taken) (cs ds : List Completion) → SideMoves a ts cs b → SideMoves b us ds c → SideMoves a (ts ++ us) (cs ++ ds) c
+SideMoves-then a b c ts us cs ds p q = record {
+  lists = Moves-then _ (side_lists a) (side_lists b) (side_lists c) ts us cs ds p.lists q.lists;
+  offer_place = q.offer_place ∙ p.offer_place;
+  reap_place = q.reap_place ∙ p.reap_place;
+  room = q.room ∙ p.room;
+  waiting = q.waiting ∙ p.waiting;
+  submissions = q.submissions ∙ p.submissions;
+  completions = q.completions ∙ p.completions;
+  entries_lent = q.entries_lent ∙ p.entries_lent;
+  completions_lent = q.completions_lent ∙ p.completions_lent;
+}
+
+pub side_has_room : (side : PlainSide) → HasRoom (side_lists side)
+side_has_room side = has_room_between side.submissions.now.ring.now side.completions.now.ring.now

@@ -1,6 +1,9 @@
 pub mod IoUring
 pub mod Laws
 pub mod Lists
+pub mod PlainSide
 pub mod Positions
+pub mod QueueLaws
+pub mod Queues
 pub mod Setup
 pub mod Slots

@@ -4,6 +4,7 @@ use Rattle.uring_entry.specs.declared.squeue.Entry.{Entry}
 use Rattle.uring_entry.specs.declared.buffer.Loan.{Loan}
 use Rattle.uring_entry.specs.declared.events.Taken.{Taken}
 use Rattle.uring_entry.specs.declared.events.Completion.{Completion}
+use Rattle.uring_ring.specs.Positions.{Held}
 
 pub record Lists : Type 0 where
   pub capacity : ℕ
@@ -16,6 +17,17 @@ pub record Lists : Type 0 where
   pub completions : List Completion
   -- how many were reaped whose slots aren't given back
   pub held : ℕ
+
+-- what stands in two rings of slots
+abbrev pub lists_between : Held Taken → Held Completion → Lists
+lists_between entries completions = record {
+  capacity = entries.capacity;
+  published = entries.published;
+  pushed = entries.pushed;
+  completion_capacity = completions.capacity;
+  completions = completions.published;
+  held = completions.taken;
+}
 
 -- how many more entries, and completions, fit
 abbrev pub free_of : Lists → ℕ

@@ -1,5 +1,5 @@
 -- A ring of slots, by what it holds.
-use Rattle.std.specs.Prelude.{◌≡◌, ℕ, ◌+◌, ◌-◌, ◌%◌, ◌^◌, [], ◌∷◌, ◌++◌, length}
+use Rattle.std.specs.Prelude.{◌≡◌, ℕ, ◌+◌, ◌-◌, ◌%◌, ◌^◌, List, [], ◌∷◌, ◌++◌, length, drop}
 use Rattle.uring_ring.specs.declared.slots.Slots.{Slots}
 use Rattle.uring_ring.specs.Positions.{Positions, Held, held_in}
 
@@ -40,3 +40,20 @@ with_tail_seen h = record h { waiting = length h.published }
 pub record Takes {T : Type 0} (item : T) (before after : Held T) : Type 0 where
   pub front : before.published ≡ item ∷ after.published
   pub rest : after ≡ record before { published = after.published; taken = before.taken + 1; waiting = before.waiting - 1; take_place = (before.take_place + 1) % 2 ^ 32 }
+
+-- so many items were taken from the front
+abbrev pub taken_out : {T : Type 0} → ℕ → Held T → Held T
+taken_out n h = record h { published = drop n h.published; taken = h.taken + n; waiting = h.waiting - n; take_place = (h.take_place + n) % 2 ^ 32 }
+
+-- the item in front was taken, and its slot given back
+pub record TakesForGood {T : Type 0} (item : T) (before after : Held T) : Type 0 where
+  pub front : before.published ≡ item ∷ after.published
+  pub rest : after ≡ record before { published = after.published; taken = 0; waiting = before.waiting - 1; take_place = (before.take_place + 1) % 2 ^ 32 }
+
+-- these items were put behind
+abbrev pub with_puts : {T : Type 0} → List T → Held T → Held T
+with_puts items h = record h { pushed = h.pushed ++ items; spare = h.spare - length items; put_place = (h.put_place + length items) % 2 ^ 32 }
+
+-- an item was put behind, and shown
+abbrev pub with_post : {T : Type 0} → T → Held T → Held T
+with_post item h = with_tail (with_put item h)

@@ -1,11 +1,13 @@
 //! The pair of rings for one thread.
 
 ghost use Rattle.std.specs.Prelude.{◌≡◌, ◌≤◌, length};
-ghost use Rattle.uring_ring.specs.Slots.{held_of};
 
+use crate::completion_queue::CompletionQueue;
+use crate::completion_ring::CompletionRing;
 use crate::setup::{Builder, FEATURES, Parameters};
 use crate::sides::{PartnerSide, Rings, UserEnds};
-use crate::slots::Slots;
+use crate::submission_queue::SubmissionQueue;
+use crate::submission_ring::SubmissionRing;
 use ring_core::SetupError;
 use std::alloc::{AllocError, Global};
 use uring_entry::squeue::Entry;
@@ -15,18 +17,9 @@ use uring_entry::{Completion, Loan, Taken};
 /// the user's side and the partner's. All its memory is taken when it is made.
 #[derive(Drop)]
 pub struct IoUring {
-    entries: Slots<Taken>,
-    completions: Slots<Completion>,
+    submissions: SubmissionRing,
+    completions: CompletionRing,
     parameters: Parameters,
-    flags: u32,
-    dropped: u32,
-    overflow: u32,
-    ghost entries_sized: { parameters.sq_entries ≡ (held_of entries).capacity },
-    ghost completions_sized: { parameters.cq_entries ≡ (held_of completions).capacity },
-    ghost small: { (held_of entries).capacity ≤ 32768 },
-    // what the partner takes it gives back at once, and what it posts it shows at once
-    ghost given_back: { (held_of entries).taken ≡ 0 },
-    ghost shown: { length (held_of completions).pushed ≡ 0 },
 }
 
 impl IoUring {
@@ -34,7 +27,10 @@ impl IoUring {
     ghost use Rattle.uring_entry.specs.Sizes.{rounded_up};
     ghost use Rattle.ring_core.specs.Positions.{is_ring_size};
     ghost use Rattle.uring_ring.specs.Setup.{default_builder, parameters_for, IsInvalidCount};
-    ghost use Rattle.uring_ring.specs.IoUring.{IsOpened, parameters_of};
+    ghost use Rattle.std.specs.Borrow.{sem};
+    ghost use Rattle.uring_ring.specs.Slots.{with_head_seen, with_tail_seen};
+    ghost use Rattle.uring_ring.specs.IoUring.{IsOpened, parameters_of, entries_in, completions_in, submission_words_in, completion_words_in, LendsSubmissions, LendsCompletions};
+    ghost use Rattle.uring_ring.specs.Queues.{entries_at, completions_at, submission_words_at, completion_words_at};
 
     /// What a ring is to be made with, as far as nothing is asked for.
     pub fn builder() -> Builder
@@ -85,22 +81,56 @@ impl IoUring {
         ensures parameters { IfOk result (λ ring. parameters_of ring ≡ parameters) }
     {
         Ok(IoUring {
-            entries: Slots::new(alloc, parameters.sq_entries, start)?,
-            completions: Slots::new(alloc, parameters.cq_entries, start)?,
+            submissions: SubmissionRing::new(alloc, parameters.sq_entries, start)?,
+            completions: CompletionRing::new(alloc, parameters.cq_entries, start)?,
             parameters,
-            flags: 0,
-            dropped: 0,
-            overflow: 0,
         })
     }
 
     /// What the ring was made with.
     pub fn params(&self) -> &Parameters
-        ensures parameters { result.now ≡ parameters_of self.now }
-        ensures entries { result.now.sq_entries ≡ ⟦<IoUring as UserEnds>⟧.entries_fit self.now }
-        ensures completions { result.now.cq_entries ≡ ⟦<IoUring as UserEnds>⟧.completions_fit self.now }
+        ensures { result.now ≡ parameters_of self.now }
     {
         &self.parameters
+    }
+
+    /// The user's end of the submission ring. It sees what the partner has taken.
+    pub fn submission(&mut self) -> SubmissionQueue<'_>
+        ensures* lent { sem 𝓛 (LendsSubmissions self.entry result.ring) }
+        ensures entries { entries_at result ≡ with_head_seen (entries_in self.old) }
+        ensures words { submission_words_at result ≡ submission_words_in self.old }
+    {
+        let ring = &mut self.submissions;
+        ring.slots.see_head();
+        SubmissionQueue { ring }
+    }
+
+    /// The user's end of the completion ring. It sees what the partner has posted.
+    pub fn completion(&mut self) -> CompletionQueue<'_>
+        ensures* lent { sem 𝓛 (LendsCompletions self.entry result.ring) }
+        ensures completions { completions_at result ≡ with_tail_seen (completions_in self.old) }
+        ensures words { completion_words_at result ≡ completion_words_in self.old }
+    {
+        let ring = &mut self.completions;
+        ring.slots.see_tail();
+        CompletionQueue { ring }
+    }
+
+    /// The user's ends of both rings at once. Each sees what the partner has done.
+    pub fn split(&mut self) -> (SubmissionQueue<'_>, CompletionQueue<'_>)
+        ensures entries { entries_at result.0 ≡ with_head_seen (entries_in self.old) }
+        ensures completions { completions_at result.1 ≡ with_tail_seen (completions_in self.old) }
+        ensures submission_words { submission_words_at result.0 ≡ submission_words_in self.old }
+        ensures completion_words { completion_words_at result.1 ≡ completion_words_in self.old }
+    {
+        let submissions = &mut self.submissions;
+        let completions = &mut self.completions;
+        submissions.slots.see_head();
+        completions.slots.see_tail();
+        (
+            SubmissionQueue { ring: submissions },
+            CompletionQueue { ring: completions },
+        )
     }
 }
 
@@ -155,7 +185,7 @@ impl PartnerSide for IoUring {
 
     ghost space = { λ ring. (completions_in ring).spare };
 
-    ghost flags_word = { λ ring. ring.flags };
+    ghost flags_word = { λ ring. (words_of ring).flags };
 
     // Each call of this side has the trait's clauses, and says what the words beside the rings are.
     fn published(&mut self) -> u32
@@ -166,8 +196,7 @@ impl PartnerSide for IoUring {
         ensures told { result ≡ length (entries_in self.old).published }
         ensures words { words_of self.new ≡ words_of self.old }
     {
-        self.entries.see_tail();
-        self.entries.published()
+        self.submissions.published()
     }
 
     fn take(&mut self) -> Option<Taken>
@@ -177,9 +206,7 @@ impl PartnerSide for IoUring {
         ensures space { (completions_in self.new).spare ≡ (completions_in self.old).spare }
         ensures words { words_of self.new ≡ words_of self.old }
     {
-        let taken = self.entries.take()?;
-        self.entries.publish_head();
-        Some(taken)
+        self.submissions.take()
     }
 
     fn room(&mut self) -> u32
@@ -190,8 +217,7 @@ impl PartnerSide for IoUring {
         ensures told { result ≡ room_of (lists_of self.old) }
         ensures words { words_of self.new ≡ words_of self.old }
     {
-        self.completions.see_head();
-        self.completions.spare()
+        self.completions.room()
     }
 
     fn post(&mut self, completion: Completion) -> Result<(), Completion>
@@ -202,19 +228,11 @@ impl PartnerSide for IoUring {
         ensures ready { (entries_in self.new).waiting ≡ (entries_in self.old).waiting }
         ensures words { words_of self.new ≡ words_of self.old }
     {
-        if self.completions.spare() == 0 {
-            return Err(completion);
-        }
-        self.completions.put(Completion {
-            big: [0; 2],
-            ..completion
-        });
-        self.completions.publish_tail();
-        Ok(())
+        self.completions.post(completion)
     }
 
     fn sq_flags(&self) -> u32 {
-        self.flags
+        self.submissions.words.flags
     }
 
     fn set_sq_flags(&mut self, flags: u32)
@@ -222,7 +240,7 @@ impl PartnerSide for IoUring {
         ensures known { ((entries_in self.new).waiting ≡ (entries_in self.old).waiting) × ((completions_in self.new).spare ≡ (completions_in self.old).spare) }
         ensures words { words_of self.new ≡ record (words_of self.old) { flags = flags } }
     {
-        self.flags = flags;
+        self.submissions.words.flags = flags;
     }
 
     fn add_dropped(&mut self)
@@ -230,7 +248,8 @@ impl PartnerSide for IoUring {
         ensures known { ((entries_in self.new).waiting ≡ (entries_in self.old).waiting) × ((completions_in self.new).spare ≡ (completions_in self.old).spare) }
         ensures words { words_of self.new ≡ record (words_of self.old) { dropped = one_more (words_of self.old).dropped } }
     {
-        self.dropped = self.dropped.saturating_add(1);
+        let dropped = self.submissions.words.dropped;
+        self.submissions.words.dropped = dropped.saturating_add(1);
     }
 
     fn add_overflow(&mut self)
@@ -238,7 +257,8 @@ impl PartnerSide for IoUring {
         ensures known { ((entries_in self.new).waiting ≡ (entries_in self.old).waiting) × ((completions_in self.new).spare ≡ (completions_in self.old).spare) }
         ensures words { words_of self.new ≡ record (words_of self.old) { overflow = one_more (words_of self.old).overflow } }
     {
-        self.overflow = self.overflow.saturating_add(1);
+        let overflow = self.completions.words.overflow;
+        self.completions.words.overflow = overflow.saturating_add(1);
     }
 
     ghost moved_none = { RingMoves-none };
@@ -266,7 +286,7 @@ impl UserEnds for IoUring {
     ghost completions_fit = { λ ring. (completions_in ring).capacity };
 
     fn offer(&mut self, entry: Entry, loan: Option<Loan>) -> Result<(), (Entry, Option<Loan>)> {
-        if self.entries.spare() == 0 {
+        if self.submissions.slots.spare() == 0 {
             return Err((entry, loan));
         }
         let taken = Taken {
@@ -274,38 +294,41 @@ impl UserEnds for IoUring {
             big: [0; 64],
             loan,
         };
-        self.entries.put(taken);
+        self.submissions.slots.put(taken);
         Ok(())
     }
 
     fn publish(&mut self) {
-        self.entries.publish_tail();
-        self.completions.publish_head();
+        self.submissions.slots.publish_tail();
+        self.completions.slots.publish_head();
     }
 
     fn refresh(&mut self) {
-        self.entries.see_head();
-        self.completions.see_tail();
+        self.submissions.slots.see_head();
+        self.completions.slots.see_tail();
     }
 
     fn reap(&mut self) -> Option<Completion> {
-        self.completions.take()
+        self.completions.slots.take()
     }
 
     fn free(&self) -> u32 {
-        self.entries.spare()
+        self.submissions.slots.spare()
     }
 
     fn capacity(&self) -> u32 {
-        self.entries.capacity()
+        self.submissions.slots.capacity()
     }
 
     fn completion_capacity(&self) -> u32 {
-        self.completions.capacity()
+        self.completions.slots.capacity()
     }
 
     fn places(&self) -> (u32, u32) {
-        (self.entries.places().0, self.completions.places().1)
+        (
+            self.submissions.slots.places().0,
+            self.completions.slots.places().1,
+        )
     }
 
     ghost used_none = { RingUses-none };

@@ -4,7 +4,7 @@
 //! position, the taker takes them and publishes its own. Each end goes by the other's position as
 //! it last saw it.
 
-ghost use Rattle.std.specs.Prelude.{◌≡◌, ◌+◌, ◌<◌, ◌≤◌, ◌↔◌, length, IsTrue, IfOk, true, MatchOption};
+ghost use Rattle.std.specs.Prelude.{◌≡◌, ◌+◌, ◌<◌, ◌≤◌, ◌↔◌, length, IfOk, true, nat_eq, MatchOption};
 ghost use Rattle.ring_core.specs.Positions.{is_ring_size};
 ghost use Rattle.uring_ring.specs.Positions.{IsSound, Fits, held_in};
 
@@ -71,6 +71,21 @@ impl<T: Drop> Slots<T> {
         ensures { result ≡ (held_of self.now).spare }
     {
         self.capacity - gap(self.head_seen, self.next_put)
+    }
+
+    /// How many items can be taken, as the taker last saw.
+    pub(crate) fn waiting(&self) -> u32
+        ensures { result ≡ (held_of self.now).waiting }
+    {
+        gap(self.next_take, self.tail_seen)
+    }
+
+    /// Whether both published positions are the same: each item that was published was taken, and
+    /// its slot given back.
+    pub(crate) fn is_settled(&self) -> bool
+        ensures { result ≡ nat_eq ((held_of self.now).taken + length (held_of self.now).published) 0 }
+    {
+        gap(self.head, self.tail) == 0
     }
 
     /// How many items are published and untaken.

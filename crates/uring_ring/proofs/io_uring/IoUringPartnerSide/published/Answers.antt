@@ -2,4 +2,4 @@ use Rattle.uring_ring.proofs.Grows.{waiting_grows}
 use Rattle.uring_ring.proofs.io_uring.IoUringPartnerSide.published.Goals as goal
 
 pub returns-clause-grows : goal.returns-clause-grows
-returns-clause-grows c = waiting_grows c.args.self.now.entries _ c.see_tail.ensures
+returns-clause-grows c = waiting_grows c.args.self.now.submissions.slots _ c.published.ensures.entries

@@ -2,4 +2,4 @@ use Rattle.uring_ring.proofs.Grows.{spare_grows}
 use Rattle.uring_ring.proofs.io_uring.IoUringPartnerSide.room.Goals as goal
 
 pub returns-clause-grows : goal.returns-clause-grows
-returns-clause-grows c = spare_grows c.args.self.now.completions _ c.see_head.ensures
+returns-clause-grows c = spare_grows c.args.self.now.completions.slots _ c.room.ensures.completions

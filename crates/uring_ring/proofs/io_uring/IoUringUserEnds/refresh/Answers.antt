@@ -2,4 +2,4 @@ use Rattle.uring_ring.proofs.Grows.{spare_grows, waiting_grows}
 use Rattle.uring_ring.proofs.io_uring.IoUringUserEnds.refresh.Goals as goal
 
 pub returns-clause-grows : goal.returns-clause-grows
-returns-clause-grows c = (spare_grows c.args.self.now.entries _ c.see_head.ensures, waiting_grows c.args.self.now.completions _ c.see_tail.ensures)
+returns-clause-grows c = (spare_grows c.args.self.now.submissions.slots _ c.see_head.ensures, waiting_grows c.args.self.now.completions.slots _ c.see_tail.ensures)

@@ -1,4 +1,4 @@
-use Rattle.std.proofs.Common.{ℕ, arith, refl, sym, ◌∙◌, ap}
+use Rattle.std.proofs.Common.{arith, refl, sym, ◌∙◌}
 use Rattle.uring_ring.proofs.SizeLemmas.{in_range_within, bad_completions, fewer_completions, enough_completions}
 use Rattle.uring_ring.proofs.setup.Builder.sized.Goals as goal
 

@@ -1,0 +1,10 @@
+use Rattle.std.proofs.Common.{refl, arith}
+use Rattle.uring_ring.proofs.QueueLemmas.{put-place, puts_none}
+use Rattle.uring_ring.proofs.submission_queue.SubmissionQueue.push_multiple.Goals as goal
+
+pub loop-entry-init : goal.loop-entry-init
+loop-entry-init c = record {
+  entries = puts_none _ (put-place c.args.self.now.ring.now.slots);
+  words = refl;
+  room = let spare = c.spare.ensures in let fits = c.if-entries-spare.false in omega (arith, spare, fits);
+}

@@ -1,0 +1,185 @@
+//! The user's end of the completion ring.
+
+ghost use Rattle.std.specs.Prelude.{◌≡◌, ◌↔◌, ◌-◌, ◌<◌, ◌≤◌, ◌++◌, IsTrue, length, map, min, drop, Some};
+ghost use Rattle.std.specs.Iterator.{at_most};
+ghost use Rattle.uring_entry.specs.FlagBits.{has_bit};
+ghost use Rattle.uring_ring.specs.Slots.{held_of, with_head, with_tail_seen, taken_out};
+ghost use Rattle.uring_ring.specs.Queues.{completions_at, completion_words_at, completions_of_status, received_of, first_received, QueueSteps, with_flag, without_flag};
+
+use crate::completion_ring::CompletionRing;
+use uring_entry::{Completion, Loan, cqueue};
+
+/// A completion entry and the loan that came back with it.
+#[derive(Drop)]
+pub struct Received<C> {
+    pub entry: C,
+    pub loan: Option<Loan>,
+}
+
+/// What a ring of small entries gives of a completion.
+fn entry_and_loan(completion: Completion) -> Received<cqueue::Entry>
+    ensures { result ≡ received_of completion }
+{
+    Received {
+        entry: cqueue::Entry {
+            user_data: completion.user_data,
+            result: completion.result,
+            flags: completion.flags,
+        },
+        loan: completion.loan,
+    }
+}
+
+/// The user's end of the completion ring: an iterator over the completions that waited when it
+/// last saw the partner's position, which it has seen when it was made. At its end it gives the
+/// slots of what it yielded back.
+pub struct CompletionQueue<'a> {
+    pub(crate) ring: &'a mut CompletionRing,
+}
+
+impl Drop for CompletionQueue<'_> {
+    fn drop(self)
+        ensures completions { held_of self.exit.0.now.slots ≡ with_head (completions_at self.entry) }
+        ensures words { self.exit.0.now.words ≡ completion_words_at self.entry }
+    {
+        let CompletionQueue { ring } = self;
+        ring.slots.publish_head();
+    }
+}
+
+impl Iterator for CompletionQueue<'_> {
+    type Item = Received<cqueue::Entry>;
+
+    ghost next_gives = { QueueSteps };
+
+    ghost remaining = { λ queue. at_most (completions_at queue).waiting };
+
+    fn next(&mut self) -> Option<Received<cqueue::Entry>> {
+        let ring = &mut *self.ring;
+        let completion = ring.slots.take()?;
+        Some(entry_and_loan(completion))
+    }
+
+    fn size_hint(&self) -> (usize, Option<usize>) {
+        let len = self.ring.slots.waiting() as usize;
+        (len, Some(len))
+    }
+}
+
+impl ExactSizeIterator for CompletionQueue<'_> {
+    fn len(&self) -> usize {
+        self.ring.slots.waiting() as usize
+    }
+}
+
+impl CompletionQueue<'_> {
+    /// Gives the slots of what was yielded back, and then sees what the partner has posted.
+    pub fn sync(&mut self)
+        ensures completions { completions_at self.new ≡ with_tail_seen (with_head (completions_at self.old)) }
+        ensures words { completion_words_at self.new ≡ completion_words_at self.old }
+        ensures same_reference { self.new.ring.ghost_name ≡ self.old.ring.ghost_name }
+    {
+        let ring = &mut *self.ring;
+        ring.slots.publish_head();
+        ring.slots.see_tail();
+    }
+
+    /// How many completions wait, as last seen.
+    pub fn len(&self) -> usize
+        ensures { result ≡ (completions_at self.now).waiting }
+    {
+        self.ring.slots.waiting() as usize
+    }
+
+    /// How many completions fit in all: a power of two.
+    pub fn capacity(&self) -> usize
+        ensures { result ≡ (completions_at self.now).capacity }
+    {
+        self.ring.slots.capacity() as usize
+    }
+
+    /// Whether none waits, as last seen.
+    pub fn is_empty(&self) -> bool
+        ensures { IsTrue result ↔ ((completions_at self.now).waiting ≡ 0) }
+    {
+        self.ring.slots.waiting() == 0
+    }
+
+    /// Whether as many wait as fit, as last seen.
+    pub fn is_full(&self) -> bool
+        ensures { IsTrue result ↔ ((completions_at self.now).waiting ≡ (completions_at self.now).capacity) }
+    {
+        self.ring.slots.waiting() == self.ring.slots.capacity()
+    }
+
+    /// How many completions the partner couldn't post.
+    pub fn overflow(&self) -> u32
+        ensures { result ≡ (completion_words_at self.now).overflow }
+    {
+        self.ring.words.overflow
+    }
+
+    /// Whether no event is to be sent for a completion (flag 1).
+    pub fn eventfd_disabled(&self) -> bool
+        ensures { result ≡ has_bit (completion_words_at self.now).flags 1 }
+    {
+        self.ring.words.flags % 2 == 1
+    }
+
+    /// Asks that no event is sent for a completion.
+    pub fn disable_eventfd(&mut self)
+        ensures completions { completions_at self.new ≡ completions_at self.old }
+        ensures words { completion_words_at self.new ≡ with_flag (completion_words_at self.old) }
+        ensures same_reference { self.new.ring.ghost_name ≡ self.old.ring.ghost_name }
+    {
+        self.ring.words.flags |= 1;
+    }
+
+    /// Asks that events are sent again.
+    pub fn enable_eventfd(&mut self)
+        ensures completions { completions_at self.new ≡ completions_at self.old }
+        ensures words { completion_words_at self.new ≡ without_flag (completion_words_at self.old) }
+        ensures same_reference { self.new.ring.ghost_name ≡ self.old.ring.ghost_name }
+    {
+        self.ring.words.flags -= self.ring.words.flags % 2;
+    }
+
+    /// Moves as many completions as wait and fit to the front of the slice, and gives their
+    /// number. What stands behind them in the slice stays.
+    pub fn fill(&mut self, into: &mut [Option<Received<cqueue::Entry>>]) -> usize
+        ensures count { result ≡ min (completions_at self.old).waiting (length into.old) }
+        ensures items { into.new ≡ map Some (first_received result (completions_at self.old)) ++ drop result into.old }
+        ensures completions { completions_at self.new ≡ taken_out result (completions_at self.old) }
+        ensures words { completion_words_at self.new ≡ completion_words_at self.old }
+        ensures same_reference { self.new.ring.ghost_name ≡ self.old.ring.ghost_name }
+    {
+        let count = into.len().min(self.len());
+        for i in 0..count {
+            into[i] = self.next();
+        }
+        count
+    }
+
+    /// What can be told of the ring without taking from it.
+    pub fn status(&self) -> CompletionStatus<'_>
+        ensures { completions_of_status result ≡ completions_at self.now }
+    {
+        CompletionStatus { ring: self.ring }
+    }
+}
+
+/// What can be told of a completion ring without taking from it.
+#[derive(Clone, Copy)]
+pub struct CompletionStatus<'a> {
+    ring: &'a CompletionRing,
+}
+
+impl CompletionStatus<'_> {
+    /// Whether the partner's published position equals the user's: nothing is posted whose slot
+    /// wasn't given back.
+    pub fn is_empty(&self) -> bool
+        ensures { IsTrue result ↔ ((completions_of_status self.now).taken ≡ 0) × (length (completions_of_status self.now).published ≡ 0) }
+    {
+        self.ring.slots.is_settled()
+    }
+}

@@ -1,0 +1,79 @@
+//! The completion ring with the words beside it.
+
+ghost use Rattle.std.specs.Prelude.{◌≡◌, length};
+ghost use Rattle.uring_ring.specs.Slots.{held_of};
+
+use crate::slots::Slots;
+use std::alloc::{AllocError, Global};
+use uring_entry::Completion;
+
+/// The words beside the completions. The user writes the flags, and the partner the counter.
+#[derive(Clone, Copy, PartialEq, Eq, Debug)]
+pub(crate) struct CompletionWords {
+    pub(crate) flags: u32,
+    pub(crate) overflow: u32,
+}
+
+/// Completions with their loans, and the words beside them.
+#[derive(Drop)]
+pub(crate) struct CompletionRing {
+    pub(crate) slots: Slots<Completion>,
+    pub(crate) words: CompletionWords,
+    // what the partner posts it shows at once
+    ghost shown: { length (held_of slots).pushed ≡ 0 },
+}
+
+impl CompletionRing {
+    ghost use Rattle.std.specs.Prelude.{◌↔◌, ◌<◌, true, IfOk, IsOk, IfErr, OnOk, OnErr};
+    ghost use Rattle.ring_core.specs.Positions.{is_ring_size};
+    ghost use Rattle.uring_entry.specs.Completions.{without_big};
+    ghost use Rattle.uring_ring.specs.Slots.{opened, with_head_seen, with_post};
+
+    pub(crate) fn new(
+        alloc: Global,
+        capacity: u32,
+        start: u32,
+    ) -> Result<CompletionRing, AllocError>
+        requires { is_ring_size capacity ≡ true }
+        ensures completions { IfOk result (λ ring. held_of ring.slots ≡ opened capacity start) }
+        ensures words { IfOk result (λ ring. ring.words ≡ record { flags = 0; overflow = 0 }) }
+    {
+        Ok(CompletionRing {
+            slots: Slots::new(alloc, capacity, start)?,
+            words: CompletionWords {
+                flags: 0,
+                overflow: 0,
+            },
+        })
+    }
+
+    /// The partner sees which slots are free, and learns how many that are.
+    pub(crate) fn room(&mut self) -> u32
+        ensures completions { held_of self.new.slots ≡ with_head_seen (held_of self.old.slots) }
+        ensures words { self.new.words ≡ self.old.words }
+        ensures count { result ≡ (held_of self.new.slots).spare }
+    {
+        self.slots.see_head();
+        self.slots.spare()
+    }
+
+    /// The partner posts a completion, of which a ring of small entries keeps all but the two
+    /// further numbers.
+    pub(crate) fn post(&mut self, completion: Completion) -> Result<(), Completion>
+        ensures room { IsOk result ↔ (0 < (held_of self.old.slots).spare) }
+        ensures ok { OnOk result (held_of self.new.slots ≡ with_post (without_big completion) (held_of self.old.slots)) }
+        ensures back { IfErr result (λ c. c ≡ completion) }
+        ensures err { OnErr result (self.new ≡ self.old) }
+        ensures words { self.new.words ≡ self.old.words }
+    {
+        if self.slots.spare() == 0 {
+            return Err(completion);
+        }
+        self.slots.put(Completion {
+            big: [0; 2],
+            ..completion
+        });
+        self.slots.publish_tail();
+        Ok(())
+    }
+}

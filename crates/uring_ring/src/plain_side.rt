@@ -1,0 +1,157 @@
+//! The partner's side of a pair of rings whose user's ends are out as queue values.
+
+ghost use Rattle.std.specs.Prelude.{◌≡◌, ◌≤◌, length};
+
+use crate::completion_queue::CompletionQueue;
+use crate::sides::{PartnerSide, Rings};
+use crate::submission_queue::SubmissionQueue;
+use uring_entry::{Completion, Taken};
+
+/// The partner's side of the rings that two queue values lend. What the queue values last saw
+/// stays as it is.
+#[derive(Drop)]
+pub struct PlainSide<'a, 'q> {
+    submissions: &'a mut SubmissionQueue<'q>,
+    completions: &'a mut CompletionQueue<'q>,
+}
+
+impl<'a, 'q> PlainSide<'a, 'q> {
+    /// The partner's side of these two queue values' rings.
+    pub fn of(
+        submissions: &'a mut SubmissionQueue<'q>,
+        completions: &'a mut CompletionQueue<'q>,
+    ) -> PlainSide<'a, 'q>
+        ensures submissions { result.submissions.ghost_name ≡ submissions.entry.ghost_name }
+        ensures completions { result.completions.ghost_name ≡ completions.entry.ghost_name }
+        ensures entries { result.submissions.now ≡ submissions.old }
+        ensures posts { result.completions.now ≡ completions.old }
+    {
+        PlainSide {
+            submissions,
+            completions,
+        }
+    }
+}
+
+impl Rings for PlainSide<'_, '_> {
+    ghost use Rattle.std.specs.Prelude.{Some, refl};
+    ghost use Rattle.uring_entry.specs.Completions.{without_big};
+    ghost use Rattle.uring_ring.specs.PlainSide.{side_lists, side_entries, side_completions};
+    ghost use Rattle.uring_ring.specs.Laws.{side_has_room};
+
+    ghost lists = { λ side. Some (side_lists side) };
+
+    ghost kept = { without_big };
+
+    ghost offer_place = { λ side. (side_entries side).put_place };
+
+    ghost reap_place = { λ side. (side_completions side).take_place };
+
+    ghost fits = { side_has_room };
+
+    ghost keeps = { λ _. refl };
+}
+
+impl PartnerSide for PlainSide<'_, '_> {
+    ghost use Rattle.std.specs.Prelude.{◌+◌, ◌<◌, ◌↔◌, ◌⊎◌, [], ◌∷◌, IsOk, IsSome, OnOk, OnErr, IfErr};
+    ghost use Rattle.std.specs.Option.{option_to_list};
+    ghost use Rattle.uring_ring.specs.Lists.{room_of};
+    ghost use Rattle.uring_ring.specs.IoUring.{one_more};
+    ghost use Rattle.uring_ring.specs.PlainSide.{SideMoves, side_lists, side_entries, side_completions, side_words};
+    ghost use Rattle.uring_ring.specs.Laws.{SideMoves-none, SideMoves-then};
+
+    ghost moved = { SideMoves };
+
+    ghost ready = { λ side. (side_entries side).waiting };
+
+    ghost space = { λ side. (side_completions side).spare };
+
+    ghost flags_word = { λ side. (side_words side).flags };
+
+    // Each call has the trait's clauses, and says what the words beside the rings are.
+    fn published(&mut self) -> u32
+        ensures moved { SideMoves self.old [] [] self.new }
+        ensures count { result ≡ (side_entries self.new).waiting }
+        ensures grows { (side_entries self.old).waiting ≤ (side_entries self.new).waiting }
+        ensures space { (side_completions self.new).spare ≡ (side_completions self.old).spare }
+        ensures told { result ≡ length (side_entries self.old).published }
+        ensures words { side_words self.new ≡ side_words self.old }
+    {
+        self.submissions.ring.published()
+    }
+
+    fn take(&mut self) -> Option<Taken>
+        ensures moved { SideMoves self.old (option_to_list result) [] self.new }
+        ensures some { IsSome result ↔ (0 < (side_entries self.old).waiting) }
+        ensures count { (side_entries self.old).waiting ≡ (side_entries self.new).waiting + length (option_to_list result) }
+        ensures space { (side_completions self.new).spare ≡ (side_completions self.old).spare }
+        ensures words { side_words self.new ≡ side_words self.old }
+    {
+        self.submissions.ring.take()
+    }
+
+    fn room(&mut self) -> u32
+        ensures moved { SideMoves self.old [] [] self.new }
+        ensures count { result ≡ (side_completions self.new).spare }
+        ensures grows { (side_completions self.old).spare ≤ (side_completions self.new).spare }
+        ensures ready { (side_entries self.new).waiting ≡ (side_entries self.old).waiting }
+        ensures told { result ≡ room_of (side_lists self.old) }
+        ensures words { side_words self.new ≡ side_words self.old }
+    {
+        self.completions.ring.room()
+    }
+
+    fn post(&mut self, completion: Completion) -> Result<(), Completion>
+        ensures room { IsOk result ↔ (0 < (side_completions self.old).spare) }
+        ensures ok { OnOk result (SideMoves self.old [] (completion ∷ []) self.new × ((side_completions self.old).spare ≡ (side_completions self.new).spare + 1)) }
+        ensures back { IfErr result (λ c. c ≡ completion) }
+        ensures err { OnErr result (self.new ≡ self.old) }
+        ensures ready { (side_entries self.new).waiting ≡ (side_entries self.old).waiting }
+        ensures words { side_words self.new ≡ side_words self.old }
+    {
+        self.completions.ring.post(completion)
+    }
+
+    fn sq_flags(&self) -> u32 {
+        self.submissions.ring.words.flags
+    }
+
+    fn set_sq_flags(&mut self, flags: u32)
+        ensures moved { SideMoves self.old [] [] self.new }
+        ensures known { ((side_entries self.new).waiting ≡ (side_entries self.old).waiting) × ((side_completions self.new).spare ≡ (side_completions self.old).spare) }
+        ensures word { ((side_words self.new).flags ≡ flags) ⊎ ((side_words self.new).flags ≡ 0) }
+        ensures words { side_words self.new ≡ record (side_words self.old) { flags = flags } }
+    {
+        let queue = &mut *self.submissions;
+        let ring = &mut *queue.ring;
+        ring.words.flags = flags;
+    }
+
+    fn add_dropped(&mut self)
+        ensures moved { SideMoves self.old [] [] self.new }
+        ensures known { ((side_entries self.new).waiting ≡ (side_entries self.old).waiting) × ((side_completions self.new).spare ≡ (side_completions self.old).spare) }
+        ensures words { side_words self.new ≡ record (side_words self.old) { dropped = one_more (side_words self.old).dropped } }
+    {
+        let queue = &mut *self.submissions;
+        let ring = &mut *queue.ring;
+        ring.words.dropped = ring.words.dropped.saturating_add(1);
+    }
+
+    fn add_overflow(&mut self)
+        ensures moved { SideMoves self.old [] [] self.new }
+        ensures known { ((side_entries self.new).waiting ≡ (side_entries self.old).waiting) × ((side_completions self.new).spare ≡ (side_completions self.old).spare) }
+        ensures words { side_words self.new ≡ record (side_words self.old) { overflow = one_more (side_words self.old).overflow } }
+    {
+        let queue = &mut *self.completions;
+        let ring = &mut *queue.ring;
+        ring.words.overflow = ring.words.overflow.saturating_add(1);
+    }
+
+    ghost moved_none = { SideMoves-none };
+
+    ghost moved_then = { SideMoves-then };
+
+    ghost moved_told = { λ a b ts cs moves. moves.lists };
+
+    ghost moved_places = { λ a b ts cs moves. (moves.offer_place, moves.reap_place) };
+}

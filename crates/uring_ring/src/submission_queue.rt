@@ -1,0 +1,171 @@
+//! The user's end of the submission ring.
+
+ghost use Rattle.std.specs.Prelude.{◌≡◌, ◌↔◌, ◌-◌, ◌<◌, ◌≤◌, IsTrue, IsOk, OnOk, OnErr, IfErr, length, map, nat_eq, ⊤};
+ghost use Rattle.uring_entry.specs.FlagBits.{has_bit};
+ghost use Rattle.uring_ring.specs.Lists.{small};
+ghost use Rattle.uring_ring.specs.Slots.{held_of, with_put, with_puts, with_tail, with_head_seen};
+ghost use Rattle.uring_ring.specs.Queues.{entries_at, submission_words_at, unlent, refused};
+
+use crate::submission_ring::SubmissionRing;
+use std::fmt;
+use uring_entry::squeue::Entry;
+use uring_entry::{Loan, Taken};
+
+/// The submission queue was full.
+#[derive(Clone, Copy, PartialEq, Eq, Debug)]
+pub struct PushError;
+
+impl fmt::Display for PushError {
+    fn fmt<W: fmt::Write>(&self, f: &mut fmt::Formatter<W>) -> fmt::Result {
+        f.write_str("submission queue is full")
+    }
+}
+
+/// What a push was refused with: the entry and its loan come back.
+#[derive(Drop)]
+pub struct Refused<S> {
+    pub error: PushError,
+    pub entry: S,
+    pub loan: Option<Loan>,
+}
+
+/// The user's end of the submission ring. It has seen the partner's position when it was made,
+/// and sees it again when it is told to. At its end it shows the partner what was pushed.
+pub struct SubmissionQueue<'a> {
+    pub(crate) ring: &'a mut SubmissionRing,
+}
+
+impl Drop for SubmissionQueue<'_> {
+    fn drop(self)
+        ensures entries { held_of self.exit.0.now.slots ≡ with_tail (entries_at self.entry) }
+        ensures words { self.exit.0.now.words ≡ submission_words_at self.entry }
+    {
+        let SubmissionQueue { ring } = self;
+        ring.slots.publish_tail();
+    }
+}
+
+impl SubmissionQueue<'_> {
+    /// Puts an entry and its loan behind, or gives both back where the queue was full as last
+    /// seen. The partner doesn't see it before it is published.
+    pub fn push(&mut self, entry: Entry, loan: Option<Loan>) -> Result<(), Refused<Entry>>
+        ensures room { IsOk result ↔ (0 < (entries_at self.old).spare) }
+        ensures ok { OnOk result (entries_at self.new ≡ with_put (small entry loan) (entries_at self.old)) }
+        ensures back { IfErr result (λ r. r ≡ refused entry loan) }
+        ensures err { OnErr result (entries_at self.new ≡ entries_at self.old) }
+        ensures words { submission_words_at self.new ≡ submission_words_at self.old }
+        ensures same_reference { self.new.ring.ghost_name ≡ self.old.ring.ghost_name }
+    {
+        let ring = &mut *self.ring;
+        if ring.slots.spare() == 0 {
+            return Err(Refused {
+                error: PushError,
+                entry,
+                loan,
+            });
+        }
+        ring.slots.put(Taken {
+            entry,
+            big: [0; 64],
+            loan,
+        });
+        Ok(())
+    }
+
+    /// Puts entries without loans behind, or none of them where not all fit as last seen.
+    pub fn push_multiple(&mut self, entries: &[Entry]) -> Result<(), PushError>
+        ensures room { IsOk result ↔ (length entries.now ≤ (entries_at self.old).spare) }
+        ensures ok { OnOk result (entries_at self.new ≡ with_puts (map unlent entries.now) (entries_at self.old)) }
+        ensures err { OnErr result (entries_at self.new ≡ entries_at self.old) }
+        ensures words { submission_words_at self.new ≡ submission_words_at self.old }
+        ensures same_reference { self.new.ring.ghost_name ≡ self.old.ring.ghost_name }
+    {
+        let ring = &mut *self.ring;
+        if entries.len() > ring.slots.spare() as usize {
+            return Err(PushError);
+        }
+        for entry in entries {
+            ring.slots.put(Taken {
+                entry: *entry,
+                big: [0; 64],
+                loan: None,
+            });
+        }
+        Ok(())
+    }
+
+    /// Shows the partner what was pushed, and then sees what it has taken.
+    pub fn sync(&mut self)
+        ensures entries { entries_at self.new ≡ with_head_seen (with_tail (entries_at self.old)) }
+        ensures words { submission_words_at self.new ≡ submission_words_at self.old }
+        ensures same_reference { self.new.ring.ghost_name ≡ self.old.ring.ghost_name }
+    {
+        let ring = &mut *self.ring;
+        ring.slots.publish_tail();
+        ring.slots.see_head();
+    }
+
+    /// How many entries the partner hasn't taken, as last seen.
+    pub fn len(&self) -> usize
+        ensures { result ≡ (entries_at self.now).capacity - (entries_at self.now).spare }
+    {
+        (self.ring.slots.capacity() - self.ring.slots.spare()) as usize
+    }
+
+    /// How many entries fit in all: a power of two.
+    pub fn capacity(&self) -> usize
+        ensures { result ≡ (entries_at self.now).capacity }
+    {
+        self.ring.slots.capacity() as usize
+    }
+
+    /// Whether the partner has taken all, as last seen.
+    pub fn is_empty(&self) -> bool
+        ensures { IsTrue result ↔ ((entries_at self.now).spare ≡ (entries_at self.now).capacity) }
+    {
+        self.ring.slots.spare() == self.ring.slots.capacity()
+    }
+
+    /// Whether nothing more fits, as last seen.
+    pub fn is_full(&self) -> bool
+        ensures { IsTrue result ↔ ((entries_at self.now).spare ≡ 0) }
+    {
+        self.ring.slots.spare() == 0
+    }
+
+    /// How many entries the partner couldn't take.
+    pub fn dropped(&self) -> u32
+        ensures { result ≡ (submission_words_at self.now).dropped }
+    {
+        self.ring.words.dropped
+    }
+
+    /// Whether the partner's own thread sleeps and wants an enter (flag 1).
+    pub fn need_wakeup(&self) -> bool
+        ensures { result ≡ has_bit (submission_words_at self.now).flags 1 }
+    {
+        self.ring.words.flags % 2 == 1
+    }
+
+    /// The same. In the Rust crate it leaves a fence between two threads to the caller; here one
+    /// thread has both ends.
+    pub fn need_wakeup_after_intermittent_seqcst(&self) -> bool
+        ensures { result ≡ has_bit (submission_words_at self.now).flags 1 }
+    {
+        self.need_wakeup()
+    }
+
+    /// Whether the partner holds completions that didn't fit (flag 2).
+    pub fn cq_overflow(&self) -> bool
+        ensures { result ≡ has_bit (submission_words_at self.now).flags 2 }
+    {
+        self.ring.words.flags / 2 % 2 == 1
+    }
+
+    /// Whether work of the partner waits for an enter (flag 4).
+    pub fn taskrun(&self) -> bool
+        ensures { result ≡ has_bit (submission_words_at self.now).flags 4 }
+    {
+        self.ring.words.flags / 4 % 2 == 1
+    }
+}

@@ -1,0 +1,71 @@
+//! The submission ring with the words beside it.
+
+ghost use Rattle.std.specs.Prelude.{◌≡◌, ◌≤◌};
+ghost use Rattle.uring_ring.specs.Slots.{held_of};
+
+use crate::slots::Slots;
+use std::alloc::{AllocError, Global};
+use uring_entry::Taken;
+
+/// The words that the partner writes beside the entries.
+#[derive(Clone, Copy, PartialEq, Eq, Debug)]
+pub(crate) struct SubmissionWords {
+    pub(crate) flags: u32,
+    pub(crate) dropped: u32,
+}
+
+/// Entries with their loans, and the words beside them.
+#[derive(Drop)]
+pub(crate) struct SubmissionRing {
+    pub(crate) slots: Slots<Taken>,
+    pub(crate) words: SubmissionWords,
+    ghost small: { (held_of slots).capacity ≤ 32768 },
+    // what the partner takes it gives back at once
+    ghost given_back: { (held_of slots).taken ≡ 0 },
+}
+
+impl SubmissionRing {
+    ghost use Rattle.std.specs.Prelude.{◌↔◌, ◌<◌, length, true, IfOk, IsSome, MatchOption};
+    ghost use Rattle.ring_core.specs.Positions.{is_ring_size};
+    ghost use Rattle.uring_ring.specs.Slots.{opened, with_tail_seen, TakesForGood};
+
+    pub(crate) fn new(
+        alloc: Global,
+        capacity: u32,
+        start: u32,
+    ) -> Result<SubmissionRing, AllocError>
+        requires size { is_ring_size capacity ≡ true }
+        requires small { capacity ≤ 32768 }
+        ensures entries { IfOk result (λ ring. held_of ring.slots ≡ opened capacity start) }
+        ensures words { IfOk result (λ ring. ring.words ≡ record { flags = 0; dropped = 0 }) }
+    {
+        Ok(SubmissionRing {
+            slots: Slots::new(alloc, capacity, start)?,
+            words: SubmissionWords {
+                flags: 0,
+                dropped: 0,
+            },
+        })
+    }
+
+    /// The partner sees what is published, and learns how much that is.
+    pub(crate) fn published(&mut self) -> u32
+        ensures entries { held_of self.new.slots ≡ with_tail_seen (held_of self.old.slots) }
+        ensures words { self.new.words ≡ self.old.words }
+        ensures count { result ≡ length (held_of self.old.slots).published }
+    {
+        self.slots.see_tail();
+        self.slots.published()
+    }
+
+    /// The partner takes the entry in front, and gives its slot back.
+    pub(crate) fn take(&mut self) -> Option<Taken>
+        ensures some { IsSome result ↔ (0 < (held_of self.old.slots).waiting) }
+        ensures taken { MatchOption result (held_of self.new.slots ≡ held_of self.old.slots) (λ taken. TakesForGood taken (held_of self.old.slots) (held_of self.new.slots)) }
+        ensures words { self.new.words ≡ self.old.words }
+    {
+        let taken = self.slots.take()?;
+        self.slots.publish_head();
+        Some(taken)
+    }
+}
