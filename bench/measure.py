@@ -9,7 +9,12 @@ PROGRAM is the built program; without it, crates/uring_cli/out/uring_cli of this
   nop     jobs that do nothing
   bytes   three reads of 64 bytes for each write of 64 bytes, on one file of at most 4,160 bytes
 
-Then the 262,144 nops are run with rings of 1, of 64 and of 32,768 entries.
+Then the 262,144 nops are run with rings of 1, of 64 and of 32,768 entries, and three more kinds of
+scripts with rings of 64 and of 4,096 entries:
+
+  drained   nops, each fourth of them drained
+  linked    nops in chains of four, by soft links
+  chosen    nops, and for each of them a choice that names one deep among those that are ready
 
 Each script is run N times (3, unless said), and the shortest time counts. A run that doesn't end with
 status 0, or whose report lacks a job, stops the measuring with status 1. The goals are those of
@@ -32,6 +37,8 @@ GOAL_RING_RATIO = 1.5
 
 RINGS = (1, 64, 32_768)
 
+MARKED_RINGS = (64, 4_096)
+
 INPUT_LIMIT = 16_777_216
 
 
@@ -53,6 +60,22 @@ def bytes_lines(jobs):
             yield b"write 1 %d %s\n" % (offset, (b"%02x" % (job // 4 % 256)) * 64)
         else:
             yield b"read 1 %d 64\n" % offset
+
+
+def drained_lines(jobs):
+    for job in range(jobs):
+        yield b"nop drain\n" if job % 4 == 3 else b"nop\n"
+
+
+def linked_lines(jobs):
+    for job in range(jobs):
+        yield b"nop\n" if job % 4 == 3 else b"nop link\n"
+
+
+def chosen_lines(jobs):
+    """Odd choices, so that no turn ends early; their places go all over a ring of 4,096."""
+    for job in range(jobs):
+        yield b"choose %d\nnop\n" % ((job * 1_237) % 4_096 * 2 + 1)
 
 
 def write_script(path, lines):
@@ -121,7 +144,7 @@ def measure(program, folder, name, lines, jobs, runs, options=()):
 
 def print_row(name, jobs, seconds, megabytes):
     each = seconds * 1_000_000 / jobs
-    print(f"{name:10} {jobs:7} jobs   {seconds:8.3f} s   {each:8.3f} microseconds a job   {megabytes:7.1f} MB")
+    print(f"{name:12} {jobs:7} jobs   {seconds:8.3f} s   {each:8.3f} microseconds a job   {megabytes:7.1f} MB")
 
 
 def measure_rings(program, folder, runs):
@@ -138,6 +161,24 @@ def measure_rings(program, folder, runs):
         ratio <= GOAL_RING_RATIO,
         f"rings of 32768 take {ratio:.2f} times the time of rings of 64 (goal: at most {GOAL_RING_RATIO})",
     )
+
+
+def measure_marked(program, folder, runs):
+    """How the time of marked and chosen jobs goes with their number, for two sizes of rings."""
+    met = True
+    for name, lines in (("drained", drained_lines), ("linked", linked_lines), ("chosen", chosen_lines)):
+        for ring in MARKED_RINGS:
+            options = ("--sq", str(ring))
+            few, few_peak = measure(program, folder, name, lines, FEW, runs, options)
+            print_row(f"{name} {ring}", FEW, few, few_peak)
+            many, many_peak = measure(program, folder, name, lines, MANY, runs, options)
+            print_row(f"{name} {ring}", MANY, many, many_peak)
+            ratio = many / few
+            met &= judge(
+                ratio <= GOAL_RATIO,
+                f"{name}, --sq {ring}: four times the jobs in {ratio:.2f} times the time (goal: at most {GOAL_RATIO})",
+            )
+    return met
 
 
 def judge(ok, text):
@@ -167,6 +208,7 @@ def main():
                 each = many * 1_000_000 / MANY
                 met &= judge(each <= GOAL_NOP_MICROSECONDS, f"{name}: {each:.3f} microseconds a job (goal: at most {GOAL_NOP_MICROSECONDS:.0f})")
         met &= measure_rings(program, folder, words.runs)
+        met &= measure_marked(program, folder, words.runs)
     sys.exit(0 if met else 1)
 
 

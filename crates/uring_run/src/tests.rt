@@ -162,6 +162,7 @@ fn syncs(rt: HostRuntime) -> Result<(), Fail> {
             assert!(rt; false);
             return Ok(());
         };
+        assert_eq!(rt; report.outcomes.len(), 1);
         assert_eq!(rt; report.outcomes[0].result, told);
     }
     Ok(())
