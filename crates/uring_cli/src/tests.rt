@@ -443,7 +443,13 @@ fn assert_rows(rt: &impl Abort, alloc: Global, rows: &[table::Row]) -> Result<()
 fn worked_out_reports(rt: HostRuntime) -> Result<(), Fail> {
     let alloc = rt.alloc();
     assert_rows(&rt, alloc, &table::drained())?;
-    assert_rows(&rt, alloc, &table::linked())?;
+    assert_rows(&rt, alloc, &table::drained_and_chosen())?;
+    assert_rows(&rt, alloc, &table::soft_links())?;
+    assert_rows(&rt, alloc, &table::hard_links())?;
+    assert_rows(&rt, alloc, &table::links_over_turns())?;
     assert_rows(&rt, alloc, &table::canceled())?;
-    assert_rows(&rt, alloc, &table::chosen())
+    assert_rows(&rt, alloc, &table::cancels_of_nothing())?;
+    assert_rows(&rt, alloc, &table::cancels_beside_cancels())?;
+    assert_rows(&rt, alloc, &table::chosen())?;
+    assert_rows(&rt, alloc, &table::chosen_in_small_rings())
 }

@@ -5,7 +5,7 @@
 pub type Row = (&'static str, &'static str, &'static str);
 
 /// Drained jobs wait for all before them, and all behind wait for them.
-pub fn drained() -> [Row; 10] {
+pub fn drained() -> [Row; 4] {
     [
         (
             "run",
@@ -17,6 +17,22 @@ pub fn drained() -> [Row; 10] {
             "nop\nnop\nnop drain\nnop\nnop\n",
             "out 0 0 -\nout 1 0 -\nout 2 0 -\nout 3 0 -\nout 4 0 -\nturn 2\ntake 0\ntake 1\npost 0 0\npost 1 0\nturn 2\ntake 2\ntake 3\npost 2 0\npost 3 0\nturn 1\ntake 4\npost 4 0\nend\n",
         ),
+        (
+            "run --sq 1",
+            "file 1 -\nwrite 1 0 aa\nread 1 0 1 drain\nwrite 1 0 bb\n",
+            "out 0 1 aa\nout 1 1 aa\nout 2 1 bb\nturn 1\ntake 0\npost 0 1\nturn 1\ntake 1\npost 1 1\nturn 1\ntake 2\npost 2 1\nend\n",
+        ),
+        (
+            "run --sq 4 --cq 4",
+            "nop drain\nnop\nnop drain\nnop\nnop\nnop drain\n",
+            "out 0 0 -\nout 1 0 -\nout 2 0 -\nout 3 0 -\nout 4 0 -\nout 5 0 -\nturn 4\ntake 0\ntake 1\ntake 2\ntake 3\npost 0 0\npost 1 0\npost 2 0\npost 3 0\nturn 2\ntake 4\ntake 5\npost 4 0\npost 5 0\nend\n",
+        ),
+    ]
+}
+
+/// Drained jobs wait and hold back whatever the choices are.
+pub fn drained_and_chosen() -> [Row; 6] {
+    [
         (
             "run",
             "choose 3\nnop\nnop drain\nnop\n",
@@ -38,19 +54,9 @@ pub fn drained() -> [Row; 10] {
             "out 0 0 -\nout 1 0 -\nout 2 0 -\nout 3 0 -\nturn 4\ntake 0\ntake 1\ntake 2\ntake 3\npost 0 0\npost 1 0\npost 2 0\npost 3 0\nend\n",
         ),
         (
-            "run --sq 1",
-            "file 1 -\nwrite 1 0 aa\nread 1 0 1 drain\nwrite 1 0 bb\n",
-            "out 0 1 aa\nout 1 1 aa\nout 2 1 bb\nturn 1\ntake 0\npost 0 1\nturn 1\ntake 1\npost 1 1\nturn 1\ntake 2\npost 2 1\nend\n",
-        ),
-        (
             "run",
             "choose 3\nchoose 3\nfile 1 -\nwrite 1 0 aa\nwrite 1 1 bb drain\nread 1 0 2 drain\n",
             "out 0 1 aa\nout 1 1 bb\nout 2 2 aabb\nturn 3\ntake 0\ntake 1\ntake 2\npost 0 1\npost 1 1\npost 2 2\nend\n",
-        ),
-        (
-            "run --sq 4 --cq 4",
-            "nop drain\nnop\nnop drain\nnop\nnop\nnop drain\n",
-            "out 0 0 -\nout 1 0 -\nout 2 0 -\nout 3 0 -\nout 4 0 -\nout 5 0 -\nturn 4\ntake 0\ntake 1\ntake 2\ntake 3\npost 0 0\npost 1 0\npost 2 0\npost 3 0\nturn 2\ntake 4\ntake 5\npost 4 0\npost 5 0\nend\n",
         ),
         (
             "run",
@@ -60,8 +66,8 @@ pub fn drained() -> [Row; 10] {
     ]
 }
 
-/// A linked job is waited for; a soft link is cut where it fails or comes short.
-pub fn linked() -> [Row; 16] {
+/// A soft link is cut where its job fails or comes short.
+pub fn soft_links() -> [Row; 7] {
     [
         (
             "run",
@@ -70,18 +76,8 @@ pub fn linked() -> [Row; 16] {
         ),
         (
             "run",
-            "file 3 ab\nread 3 0 2 hard\nwrite 3 0 cc\n",
-            "out 0 1 ab00\nout 1 1 cc\nturn 2\ntake 0\ntake 1\npost 0 1\npost 1 1\nend\n",
-        ),
-        (
-            "run",
             "file 3 ab\nread 3 0 1 link\nwrite 3 0 cc\n",
             "out 0 1 ab\nout 1 1 cc\nturn 2\ntake 0\ntake 1\npost 0 1\npost 1 1\nend\n",
-        ),
-        (
-            "run",
-            "choose 3\nnop link\nnop\nnop\n",
-            "out 0 0 -\nout 1 0 -\nout 2 0 -\nturn 3\ntake 0\ntake 1\ntake 2\npost 2 0\npost 0 0\npost 1 0\nend\n",
         ),
         (
             "run",
@@ -90,38 +86,13 @@ pub fn linked() -> [Row; 16] {
         ),
         (
             "run",
-            "read 9 0 1 hard\nnop link\nfsync 9 link\nnop\nnop\n",
-            "out 0 -9 00\nout 1 0 -\nout 2 -9 -\nout 3 -125 -\nout 4 0 -\nturn 5\ntake 0\ntake 1\ntake 2\ntake 3\ntake 4\npost 0 -9\npost 1 0\npost 2 -9\npost 3 -125\npost 4 0\nend\n",
-        ),
-        (
-            "run",
-            "nop link\nread 9 0 1 hard\ntruncate 9 0 link\nnop\n",
-            "out 0 0 -\nout 1 -9 00\nout 2 -9 -\nout 3 -125 -\nturn 4\ntake 0\ntake 1\ntake 2\ntake 3\npost 0 0\npost 1 -9\npost 2 -9\npost 3 -125\nend\n",
-        ),
-        (
-            "run",
             "file 1 -\nwrite 1 16777216 00 link\nwrite 1 0 11\nread 1 0 1\n",
             "out 0 -27 00\nout 1 -125 11\nout 2 0 00\nturn 3\ntake 0\ntake 1\ntake 2\npost 0 -27\npost 1 -125\npost 2 0\nend\n",
-        ),
-        (
-            "run --sq 2",
-            "file 1 -\nread 1 0 1 link\nnop link\nnop link\nnop\nnop\n",
-            "out 0 0 00\nout 1 -125 -\nout 2 -125 -\nout 3 -125 -\nout 4 0 -\nturn 2\ntake 0\ntake 1\npost 0 0\npost 1 -125\nturn 2\ntake 2\ntake 3\npost 2 -125\npost 3 -125\nturn 1\ntake 4\npost 4 0\nend\n",
-        ),
-        (
-            "run --sq 1",
-            "file 1 00\nread 1 0 2 link\nwrite 1 0 11\nread 1 0 1\n",
-            "out 0 1 0000\nout 1 -125 11\nout 2 1 00\nturn 1\ntake 0\npost 0 1\nturn 1\ntake 1\npost 1 -125\nturn 1\ntake 2\npost 2 1\nend\n",
         ),
         (
             "run",
             "file 1 -\nwrite 1 5 - link\nread 1 0 0 link\ntruncate 1 2\nread 1 0 4\n",
             "out 0 0 -\nout 1 0 -\nout 2 0 -\nout 3 2 00000000\nturn 4\ntake 0\ntake 1\ntake 2\ntake 3\npost 0 0\npost 1 0\npost 2 0\npost 3 2\nend\n",
-        ),
-        (
-            "run",
-            "choose 5\nnop link\nnop\nnop\nnop link\nnop\n",
-            "out 0 0 -\nout 1 0 -\nout 2 0 -\nout 3 0 -\nout 4 0 -\nturn 5\ntake 0\ntake 1\ntake 2\ntake 3\ntake 4\npost 3 0\npost 0 0\npost 1 0\npost 2 0\npost 4 0\nend\n",
         ),
         (
             "run --sq 4",
@@ -132,6 +103,27 @@ pub fn linked() -> [Row; 16] {
             "run",
             "nop link\n",
             "out 0 0 -\nturn 1\ntake 0\npost 0 0\nend\n",
+        ),
+    ]
+}
+
+/// A hard link isn't cut by its own job's result.
+pub fn hard_links() -> [Row; 5] {
+    [
+        (
+            "run",
+            "file 3 ab\nread 3 0 2 hard\nwrite 3 0 cc\n",
+            "out 0 1 ab00\nout 1 1 cc\nturn 2\ntake 0\ntake 1\npost 0 1\npost 1 1\nend\n",
+        ),
+        (
+            "run",
+            "read 9 0 1 hard\nnop link\nfsync 9 link\nnop\nnop\n",
+            "out 0 -9 00\nout 1 0 -\nout 2 -9 -\nout 3 -125 -\nout 4 0 -\nturn 5\ntake 0\ntake 1\ntake 2\ntake 3\ntake 4\npost 0 -9\npost 1 0\npost 2 -9\npost 3 -125\npost 4 0\nend\n",
+        ),
+        (
+            "run",
+            "nop link\nread 9 0 1 hard\ntruncate 9 0 link\nnop\n",
+            "out 0 0 -\nout 1 -9 00\nout 2 -9 -\nout 3 -125 -\nturn 4\ntake 0\ntake 1\ntake 2\ntake 3\npost 0 0\npost 1 -9\npost 2 -9\npost 3 -125\nend\n",
         ),
         (
             "run",
@@ -146,14 +138,35 @@ pub fn linked() -> [Row; 16] {
     ]
 }
 
-/// A cancel marks a job that is taken and open; a marked job changes nothing.
-pub fn canceled() -> [Row; 15] {
+/// A linked job is waited for over turns and choices.
+pub fn links_over_turns() -> [Row; 4] {
     [
         (
             "run",
-            "cancel 0\n",
-            "out 0 -2 -\nturn 1\ntake 0\npost 0 -2\nend\n",
+            "choose 3\nnop link\nnop\nnop\n",
+            "out 0 0 -\nout 1 0 -\nout 2 0 -\nturn 3\ntake 0\ntake 1\ntake 2\npost 2 0\npost 0 0\npost 1 0\nend\n",
         ),
+        (
+            "run --sq 2",
+            "file 1 -\nread 1 0 1 link\nnop link\nnop link\nnop\nnop\n",
+            "out 0 0 00\nout 1 -125 -\nout 2 -125 -\nout 3 -125 -\nout 4 0 -\nturn 2\ntake 0\ntake 1\npost 0 0\npost 1 -125\nturn 2\ntake 2\ntake 3\npost 2 -125\npost 3 -125\nturn 1\ntake 4\npost 4 0\nend\n",
+        ),
+        (
+            "run --sq 1",
+            "file 1 00\nread 1 0 2 link\nwrite 1 0 11\nread 1 0 1\n",
+            "out 0 1 0000\nout 1 -125 11\nout 2 1 00\nturn 1\ntake 0\npost 0 1\nturn 1\ntake 1\npost 1 -125\nturn 1\ntake 2\npost 2 1\nend\n",
+        ),
+        (
+            "run",
+            "choose 5\nnop link\nnop\nnop\nnop link\nnop\n",
+            "out 0 0 -\nout 1 0 -\nout 2 0 -\nout 3 0 -\nout 4 0 -\nturn 5\ntake 0\ntake 1\ntake 2\ntake 3\ntake 4\npost 3 0\npost 0 0\npost 1 0\npost 2 0\npost 4 0\nend\n",
+        ),
+    ]
+}
+
+/// A cancel marks another job that is taken and open; a marked job changes nothing.
+pub fn canceled() -> [Row; 5] {
+    [
         (
             "run",
             "cancel 1\nnop\n",
@@ -171,6 +184,53 @@ pub fn canceled() -> [Row; 15] {
         ),
         (
             "run",
+            "choose 5\nnop link\nnop\ncancel 1\n",
+            "out 0 0 -\nout 1 0 -\nout 2 -2 -\nturn 3\ntake 0\ntake 1\ntake 2\npost 0 0\npost 1 0\npost 2 -2\nend\n",
+        ),
+        (
+            "run",
+            "choose 3\nfile 1 0a\ntruncate 1 0\ncancel 0 hard\nread 1 0 1\n",
+            "out 0 -125 -\nout 1 0 -\nout 2 1 0a\nturn 3\ntake 0\ntake 1\ntake 2\npost 1 0\npost 0 -125\npost 2 1\nend\n",
+        ),
+    ]
+}
+
+/// A cancel of its own job, or of one that isn't open, finds none.
+pub fn cancels_of_nothing() -> [Row; 5] {
+    [
+        (
+            "run",
+            "cancel 0\n",
+            "out 0 -2 -\nturn 1\ntake 0\npost 0 -2\nend\n",
+        ),
+        (
+            "run",
+            "cancel 7 link\nnop\nnop\n",
+            "out 0 -2 -\nout 1 -125 -\nout 2 0 -\nturn 3\ntake 0\ntake 1\ntake 2\npost 0 -2\npost 1 -125\npost 2 0\nend\n",
+        ),
+        (
+            "run --sq 1",
+            "cancel 1\nnop\ncancel 1\n",
+            "out 0 -2 -\nout 1 0 -\nout 2 -2 -\nturn 1\ntake 0\npost 0 -2\nturn 1\ntake 1\npost 1 0\nturn 1\ntake 2\npost 2 -2\nend\n",
+        ),
+        (
+            "run",
+            "choose 3\nnop\ncancel 18446744073709551615\n",
+            "out 0 0 -\nout 1 -2 -\nturn 2\ntake 0\ntake 1\npost 1 -2\npost 0 0\nend\n",
+        ),
+        (
+            "run",
+            "nop drain\ncancel 0\ncancel 1 drain\n",
+            "out 0 0 -\nout 1 -2 -\nout 2 -2 -\nturn 3\ntake 0\ntake 1\ntake 2\npost 0 0\npost 1 -2\npost 2 -2\nend\n",
+        ),
+    ]
+}
+
+/// Of several cancels the first marks; a cancel may be canceled, too.
+pub fn cancels_beside_cancels() -> [Row; 5] {
+    [
+        (
+            "run",
             "choose 5\nnop\nnop\ncancel 0\ncancel 0\n",
             "out 0 -125 -\nout 1 0 -\nout 2 0 -\nout 3 -2 -\nturn 4\ntake 0\ntake 1\ntake 2\ntake 3\npost 2 0\npost 0 -125\npost 1 0\npost 3 -2\nend\n",
         ),
@@ -186,21 +246,6 @@ pub fn canceled() -> [Row; 15] {
         ),
         (
             "run",
-            "cancel 7 link\nnop\nnop\n",
-            "out 0 -2 -\nout 1 -125 -\nout 2 0 -\nturn 3\ntake 0\ntake 1\ntake 2\npost 0 -2\npost 1 -125\npost 2 0\nend\n",
-        ),
-        (
-            "run --sq 1",
-            "cancel 1\nnop\ncancel 1\n",
-            "out 0 -2 -\nout 1 0 -\nout 2 -2 -\nturn 1\ntake 0\npost 0 -2\nturn 1\ntake 1\npost 1 0\nturn 1\ntake 2\npost 2 -2\nend\n",
-        ),
-        (
-            "run",
-            "choose 5\nnop link\nnop\ncancel 1\n",
-            "out 0 0 -\nout 1 0 -\nout 2 -2 -\nturn 3\ntake 0\ntake 1\ntake 2\npost 0 0\npost 1 0\npost 2 -2\nend\n",
-        ),
-        (
-            "run",
             "choose 3\nchoose 3\nnop\ncancel 2\ncancel 1\n",
             "out 0 0 -\nout 1 0 -\nout 2 -125 -\nturn 3\ntake 0\ntake 1\ntake 2\npost 1 0\npost 2 -125\npost 0 0\nend\n",
         ),
@@ -209,34 +254,14 @@ pub fn canceled() -> [Row; 15] {
             "choose 3\ncancel 1\ncancel 0\n",
             "out 0 -125 -\nout 1 0 -\nturn 2\ntake 0\ntake 1\npost 1 0\npost 0 -125\nend\n",
         ),
-        (
-            "run",
-            "choose 3\nfile 1 0a\ntruncate 1 0\ncancel 0 hard\nread 1 0 1\n",
-            "out 0 -125 -\nout 1 0 -\nout 2 1 0a\nturn 3\ntake 0\ntake 1\ntake 2\npost 1 0\npost 0 -125\npost 2 1\nend\n",
-        ),
-        (
-            "run",
-            "choose 3\nnop\ncancel 18446744073709551615\n",
-            "out 0 0 -\nout 1 -2 -\nturn 2\ntake 0\ntake 1\npost 1 -2\npost 0 0\nend\n",
-        ),
-        (
-            "run",
-            "nop drain\ncancel 0\ncancel 1 drain\n",
-            "out 0 0 -\nout 1 -2 -\nout 2 -2 -\nturn 3\ntake 0\ntake 1\ntake 2\npost 0 0\npost 1 -2\npost 2 -2\nend\n",
-        ),
     ]
 }
 
 /// A choice names the ready job that settles next, and an even one ends the turn.
-pub fn chosen() -> [Row; 11] {
+pub fn chosen() -> [Row; 6] {
     [
         (
             "run",
-            "choose 2\nnop\nnop\n",
-            "out 0 0 -\nout 1 0 -\nturn 2\ntake 0\ntake 1\npost 1 0\nturn 0\npost 0 0\nend\n",
-        ),
-        (
-            "run --sq 2 --start 4294967295",
             "choose 2\nnop\nnop\n",
             "out 0 0 -\nout 1 0 -\nturn 2\ntake 0\ntake 1\npost 1 0\nturn 0\npost 0 0\nend\n",
         ),
@@ -256,6 +281,27 @@ pub fn chosen() -> [Row; 11] {
             "out 0 0 -\nout 1 0 -\nout 2 0 -\nturn 3\ntake 0\ntake 1\ntake 2\npost 1 0\nturn 0\npost 0 0\npost 2 0\nend\n",
         ),
         (
+            "run",
+            "file 1 -\nchoose 5\nwrite 1 0 01\nchoose 3\nwrite 1 0 02\nwrite 1 0 03\nread 1 0 1\n",
+            "out 0 1 01\nout 1 1 02\nout 2 1 03\nout 3 1 01\nturn 4\ntake 0\ntake 1\ntake 2\ntake 3\npost 2 1\npost 1 1\npost 0 1\npost 3 1\nend\n",
+        ),
+        (
+            "run",
+            "choose 3\nchoose 2\nnop link\nnop\nnop drain\nnop\n",
+            "out 0 0 -\nout 1 0 -\nout 2 0 -\nout 3 0 -\nturn 4\ntake 0\ntake 1\ntake 2\ntake 3\npost 0 0\npost 1 0\nturn 0\npost 2 0\npost 3 0\nend\n",
+        ),
+    ]
+}
+
+/// The same where a turn begins with few jobs, or has room for few posts.
+pub fn chosen_in_small_rings() -> [Row; 5] {
+    [
+        (
+            "run --sq 2 --start 4294967295",
+            "choose 2\nnop\nnop\n",
+            "out 0 0 -\nout 1 0 -\nturn 2\ntake 0\ntake 1\npost 1 0\nturn 0\npost 0 0\nend\n",
+        ),
+        (
             "run --sq 2 --cq 2",
             "choose 3\nchoose 4\nnop\nnop\nnop\nnop\n",
             "out 0 0 -\nout 1 0 -\nout 2 0 -\nout 3 0 -\nturn 2\ntake 0\ntake 1\npost 1 0\npost 0 0\nturn 2\ntake 2\ntake 3\npost 2 0\npost 3 0\nend\n",
@@ -271,19 +317,9 @@ pub fn chosen() -> [Row; 11] {
             "out 0 0 -\nout 1 0 -\nout 2 0 -\nout 3 0 -\nout 4 0 -\nout 5 0 -\nturn 4\ntake 0\ntake 1\ntake 2\ntake 3\npost 3 0\nturn 2\ntake 4\ntake 5\npost 0 0\npost 4 0\nturn 0\npost 1 0\npost 2 0\npost 5 0\nend\n",
         ),
         (
-            "run",
-            "file 1 -\nchoose 5\nwrite 1 0 01\nchoose 3\nwrite 1 0 02\nwrite 1 0 03\nread 1 0 1\n",
-            "out 0 1 01\nout 1 1 02\nout 2 1 03\nout 3 1 01\nturn 4\ntake 0\ntake 1\ntake 2\ntake 3\npost 2 1\npost 1 1\npost 0 1\npost 3 1\nend\n",
-        ),
-        (
             "run --sq 1 --cq 1",
             "choose 2\nchoose 9\nnop\nnop\n",
             "out 0 0 -\nout 1 0 -\nturn 1\ntake 0\npost 0 0\nturn 1\ntake 1\npost 1 0\nend\n",
-        ),
-        (
-            "run",
-            "choose 3\nchoose 2\nnop link\nnop\nnop drain\nnop\n",
-            "out 0 0 -\nout 1 0 -\nout 2 0 -\nout 3 0 -\nturn 4\ntake 0\ntake 1\ntake 2\ntake 3\npost 0 0\npost 1 0\nturn 0\npost 2 0\npost 3 0\nend\n",
         ),
     ]
 }
