@@ -16,6 +16,9 @@ scripts with rings of 64 and of 4,096 entries:
   linked    nops in chains of four, by soft links
   chosen    nops, and for each of them a choice that names one deep among those that are ready
 
+Where crates/ring_speed/out/ring_speed is there too, which `rt run` leaves there, it is run as well: a
+million entries through a pair of rings of 64, and as many items through two deques.
+
 Each script is run N times (3, unless said), and the shortest time counts. A run that doesn't end with
 status 0, or whose report lacks a job, stops the measuring with status 1. The goals are those of
 docs/BENCH.md; a goal that is missed is named, and the status is then 1 too.
@@ -23,6 +26,8 @@ docs/BENCH.md; a goal that is missed is named, and the status is then 1 too.
 
 import argparse
 import os
+import re
+import subprocess
 import sys
 import tempfile
 import time
@@ -34,6 +39,7 @@ GOAL_RATIO = 4.4
 GOAL_NOP_MICROSECONDS = 1.0
 GOAL_MEGABYTES = 400.0
 GOAL_RING_RATIO = 1.5
+GOAL_ENTRY_NANOSECONDS = 40.0
 
 RINGS = (1, 64, 32_768)
 
@@ -181,6 +187,25 @@ def measure_marked(program, folder, runs):
     return met
 
 
+def nanoseconds_of(program):
+    """What the program says of its rings and of its deques, in nanoseconds an item."""
+    run = subprocess.run([program], env={}, capture_output=True, text=True, check=True)
+    times = {name: float(number) for name, number in re.findall(r"^(\w+): ([0-9.]+) ns an item$", run.stderr, re.M)}
+    if set(times) != {"rings", "deques"}:
+        sys.exit(f"measure.py: {program} said {run.stderr!r}")
+    return times
+
+
+def measure_entries(program, runs):
+    """How long an entry takes through a pair of rings, beside an item through two deques."""
+    all_times = [nanoseconds_of(program) for _ in range(runs)]
+    times = {name: sorted(times[name] for times in all_times) for name in ("rings", "deques")}
+    for name, sorted_times in times.items():
+        print(f"{name:12} {sorted_times[0]:.1f} to {sorted_times[-1]:.1f} nanoseconds an item, {sorted_times[len(sorted_times) // 2]:.1f} in the middle")
+    middle = times["rings"][runs // 2]
+    return judge(middle <= GOAL_ENTRY_NANOSECONDS, f"an entry through a pair of rings: {middle:.1f} nanoseconds (goal: at most {GOAL_ENTRY_NANOSECONDS:.0f})")
+
+
 def judge(ok, text):
     print(f"{'met   ' if ok else 'MISSED'} {text}")
     return ok
@@ -209,6 +234,9 @@ def main():
                 met &= judge(each <= GOAL_NOP_MICROSECONDS, f"{name}: {each:.3f} microseconds a job (goal: at most {GOAL_NOP_MICROSECONDS:.0f})")
         met &= measure_rings(program, folder, words.runs)
         met &= measure_marked(program, folder, words.runs)
+    ring_speed = os.path.join(here(), "crates", "ring_speed", "out", "ring_speed")
+    if os.access(ring_speed, os.X_OK):
+        met &= measure_entries(ring_speed, max(words.runs, 5))
     sys.exit(0 if met else 1)
 
 

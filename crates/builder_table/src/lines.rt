@@ -1,7 +1,8 @@
 //! The lines of the table.
 
 use std::io;
-use uring_entry::squeue::{Entry, Entry128};
+use uring_entry::squeue::Entry;
+use uring_large::squeue::Entry128;
 
 /// Writes a builder's name and the bytes of its entry in hex.
 pub fn line<R: Alloc + Print>(rt: &R, name: &str, entry: Entry) -> io::Result<()> {

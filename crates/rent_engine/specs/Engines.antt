@@ -8,8 +8,8 @@ use Rattle.uring_entry.specs.declared.events.Taken.{Taken}
 use Rattle.uring_entry.specs.declared.events.Completion.{Completion}
 use Rattle.uring_entry.specs.Completions.{is_final}
 use Rattle.uring_ops_file.specs.Rows.{new_async_cancel, async_cancel_words}
-use Rattle.uring_ring.specs.declared.setup.Parameters.{Parameters}
-use Rattle.uring_ring.specs.contracts.setup.Parameters as parameters
+use Rattle.ring_setup.specs.declared.parameters.Parameters.{Parameters}
+use Rattle.ring_setup.specs.contracts.parameters.Parameters as parameters
 use Rattle.uring_ring.specs.Lists.{Lists, Becomes, WhereTold, free_of, small}
 use Rattle.rent_engine.specs.declared.ops.OpKey.{OpKey}
 use Rattle.rent_engine.specs.declared.ops.StartFault.{StartFault}

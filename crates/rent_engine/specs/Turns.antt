@@ -4,7 +4,7 @@ use Rattle.uring_entry.specs.declared.events.Taken.{Taken}
 use Rattle.uring_entry.specs.declared.events.Completion.{Completion}
 use Rattle.uring_entry.specs.declared.events.LogEvent.{LogEvent}
 use Rattle.uring_model.specs.Partner.{PartnerState}
-use Rattle.uring_ring.specs.declared.setup.Parameters.{Parameters}
+use Rattle.ring_setup.specs.declared.parameters.Parameters.{Parameters}
 use Rattle.uring_ring.specs.Lists.{Lists, Becomes, all_published}
 use Rattle.uring_submit.specs.declared.error.SubmitError.{SubmitError}
 use Rattle.uring_submit.specs.declared.error.SubmitError.TheVariants as submit

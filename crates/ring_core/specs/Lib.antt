@@ -1,4 +1,6 @@
+pub mod Held
 pub mod Laws
 pub mod Machine
 pub mod Positions
+pub mod Slots
 pub mod Stands

@@ -5,9 +5,8 @@ use Rattle.std.proofs.lemmas.Nat.{le_bytes_2, le_bytes_4, le_bytes_8, from_le_by
 use Rattle.std.proofs.lemmas.Int.{of_z-to_z, to_z-of_z}
 use Rattle.std.proofs.lemmas.List.{drop_all}
 use Rattle.uring_entry.specs.declared.squeue.Entry.{Entry}
-use Rattle.uring_entry.specs.declared.large_completion.Entry32.{Entry32}
-use Rattle.uring_entry.specs.Layouts.{completion_at, completion_bytes, large_completion_at, large_completion_bytes}
-use Rattle.uring_entry.specs.Layouts.{entry_at, entry_bytes, FitsLow, FitsHigh, FitsLarge}
+use Rattle.uring_entry.specs.Layouts.{completion_at, completion_bytes}
+use Rattle.uring_entry.specs.Layouts.{entry_at, entry_bytes, FitsLow, FitsHigh}
 
 -- n elements from place i
 abbrev pub window : ℕ → ℕ → List ℕ → List ℕ
@@ -46,7 +45,7 @@ signed_back b i r =
     omega (arith, r.below i, r.below (suc i), r.below (suc (suc i)), r.below (suc (suc (suc i)))) in
     ap (to_le_bytes w32) (of_z-to_z w32 (from_le_bytes w32 (window i 4 b)) f) ∙ word_back b i r
 
-join : {a a' r r' : List ℕ} → a ≡ a' → r ≡ r' → a ++ r ≡ a' ++ r'
+pub join : {a a' r r' : List ℕ} → a ≡ a' → r ≡ r' → a ++ r ≡ a' ++ r'
 join p q = ap₂ (λ x y. x ++ y) p q
 
 pub bytes-entry : (b : List ℕ) → length b ≡ 64 → AreBytes b → entry_bytes (entry_at b) ≡ b
@@ -98,26 +97,3 @@ entry-bytes e f g = same_words e _ _ _ _ _ _ _ _ _ _ _ _
 pub bytes-completion : (b : List ℕ) → length b ≡ 16 → AreBytes b → completion_bytes (completion_at b) ≡ b
 bytes-completion b h r =
     join (long_back b 0 r) (join (signed_back b 8 r) (word_back b 12 r)) ∙ sym (drop-window 16 0 b (sym h))
-
-pub bytes-large-completion : (b : List ℕ) → length b ≡ 32 → AreBytes b
-    → large_completion_bytes (large_completion_at b) ≡ b
-bytes-large-completion b h r =
-    join (long_back b 0 r) (join (signed_back b 8 r) (join (word_back b 12 r) (join (long_back b 16 r) (long_back b 24 r))))
-    ∙ sym (drop-window 32 0 b (sym h))
-
--- a list of two elements
-two_elements : (b : List ℕ) → length b ≡ 2 → get_or b 0 0 ∷ get_or b 1 0 ∷ [] ≡ b
-two_elements b h = sym (drop-window 2 0 b (sym h))
-
-same_large : (c : Entry32) (user_data : ℕ) (outcome : ℤ) (flags front back : ℕ)
-    → user_data ≡ c.entry.user_data → outcome ≡ c.entry.result → flags ≡ c.entry.flags → front ∷ back ∷ [] ≡ c.big
-    → record { entry = record { user_data = user_data; result = outcome; flags = flags }; big = front ∷ back ∷ [] } ≡ c
-same_large c user_data outcome flags front back h1 h2 h3 h4 = simp (h1, h2, h3, h4)
-
-pub large-completion-bytes : (c : Entry32) → FitsLarge c → large_completion_at (large_completion_bytes c) ≡ c
-large-completion-bytes c f = same_large c _ _ _ _ _
-    (from_le_bytes-to_le_bytes_8 c.entry.user_data f.user_data)
-    (ap (cast_signed w32) (from_le_bytes-to_le_bytes_4 (cast_unsigned w32 c.entry.result) (search (rules, f.outcome))) ∙ to_z-of_z w32 c.entry.result f.outcome)
-    (from_le_bytes-to_le_bytes_4 c.entry.flags f.flags)
-    (ap₂ (λ x y. x ∷ y ∷ []) (from_le_bytes-to_le_bytes_8 (get_or c.big 0 0) f.front) (from_le_bytes-to_le_bytes_8 (get_or c.big 1 0) f.back)
-    ∙ two_elements c.big f.count)

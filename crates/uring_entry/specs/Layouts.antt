@@ -1,10 +1,8 @@
 -- The layouts of entries and completions, word by word.
-use Rattle.std.specs.Prelude.{◌≡◌, ℕ, ◌<◌, ◌^◌, FitsSigned, length, List, [], ◌∷◌, ◌++◌, slice_index, take, drop}
+use Rattle.std.specs.Prelude.{ℕ, ◌<◌, ◌^◌, FitsSigned, List, ◌∷◌, ◌++◌, slice_index}
 use Rattle.std.specs.Int.{w16, w32, w64, cast_signed, cast_unsigned, to_le_bytes}
 use Rattle.uring_entry.specs.declared.squeue.Entry.{Entry}
-use Rattle.uring_entry.specs.declared.large_entry.Entry128.{Entry128}
 use Rattle.uring_entry.specs.declared.cqueue.Entry.{Entry as Small}
-use Rattle.uring_entry.specs.declared.large_completion.Entry32.{Entry32}
 use Rattle.uring_entry.specs.Bytes.{half_at, word_at, long_at}
 
 -- the submission entry that 64 bytes hold
@@ -40,27 +38,12 @@ entry_bytes e = e.opcode ∷ e.flags ∷ (to_le_bytes w16 e.prio
     ++ (to_le_bytes w32 e.idx
     ++ (to_le_bytes w64 e.third ++ to_le_bytes w64 e.fourth)))))))))))
 
--- the large submission entry that 128 bytes hold, and its bytes
-abbrev pub large_entry_at : List ℕ → Entry128
-large_entry_at b = record { entry = entry_at (take 64 b); big = drop 64 b }
-
-abbrev pub large_entry_bytes : Entry128 → List ℕ
-large_entry_bytes e = entry_bytes e.entry ++ e.big
-
 -- the completion that 16 bytes hold, and its bytes
 abbrev pub completion_at : List ℕ → Small
 completion_at b = record { user_data = long_at b 0; result = cast_signed w32 (word_at b 8); flags = word_at b 12 }
 
 abbrev pub completion_bytes : Small → List ℕ
 completion_bytes c = to_le_bytes w64 c.user_data ++ (to_le_bytes w32 (cast_unsigned w32 c.result) ++ to_le_bytes w32 c.flags)
-
--- the large completion that 32 bytes hold, and its bytes
-abbrev pub large_completion_at : List ℕ → Entry32
-large_completion_at b = record { entry = completion_at b; big = long_at b 16 ∷ long_at b 24 ∷ [] }
-
-abbrev pub large_completion_bytes : Entry32 → List ℕ
-large_completion_bytes c = completion_bytes c.entry
-    ++ (to_le_bytes w64 (slice_index c.big 0) ++ to_le_bytes w64 (slice_index c.big 1))
 
 -- the words fit their types
 pub record FitsLow (e : Entry) : Type 0 where
@@ -78,11 +61,3 @@ pub record FitsHigh (e : Entry) : Type 0 where
   pub idx : e.idx < 2 ^ 32
   pub third : e.third < 2 ^ 64
   pub fourth : e.fourth < 2 ^ 64
-
-pub record FitsLarge (c : Entry32) : Type 0 where
-  pub user_data : c.entry.user_data < 2 ^ 64
-  pub outcome : FitsSigned w32 c.entry.result
-  pub flags : c.entry.flags < 2 ^ 32
-  pub count : length c.big ≡ 2
-  pub front : slice_index c.big 0 < 2 ^ 64
-  pub back : slice_index c.big 1 < 2 ^ 64

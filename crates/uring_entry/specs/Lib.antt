@@ -8,4 +8,3 @@ pub mod Lending
 pub mod Sizes
 pub mod Bytes
 pub mod Layouts
-pub mod Numbers

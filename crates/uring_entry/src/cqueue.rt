@@ -3,9 +3,6 @@
 ghost use Rattle.std.specs.Prelude.{◌≡◌};
 ghost use Rattle.uring_entry.specs.Completions.{is_buffer_more, is_more, is_notif, is_sock_nonempty, selected_buffer};
 
-pub use crate::completion_marker::EntryMarker;
-pub use crate::large_completion::Entry32;
-
 /// A completion entry of 16 bytes: its three words, laid out as in the Linux io_uring header.
 #[derive(Clone, Copy, PartialEq, Eq, Debug)]
 pub struct Entry {

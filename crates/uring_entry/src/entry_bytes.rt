@@ -1,9 +1,9 @@
 //! Submission entries as bytes.
 
 ghost use Rattle.std.specs.Prelude.{◌≡◌};
-ghost use Rattle.uring_entry.specs.Layouts.{entry_at, entry_bytes, large_entry_at, large_entry_bytes, FitsHigh, FitsLow};
+ghost use Rattle.uring_entry.specs.Layouts.{entry_at, entry_bytes, FitsHigh, FitsLow};
 
-use crate::squeue::{Entry, Entry128};
+use crate::squeue::Entry;
 use crate::words::{half_from, long_from, word_from};
 
 impl Entry {
@@ -98,33 +98,6 @@ impl Entry {
             idx: word_from(bytes, 44),
             third: long_from(bytes, 48),
             fourth: long_from(bytes, 56),
-        }
-    }
-}
-
-impl Entry128 {
-    /// The 128 bytes of the entry: those of a small one, and then the 64 others.
-    pub fn to_bytes(&self) -> [u8; 128]
-        ensures value { result ≡ large_entry_bytes self.now }
-        ensures inverse { large_entry_at result ≡ self.now }
-    {
-        let head = self.entry.to_bytes();
-        let mut bytes = [0; 128];
-        bytes[..64].copy_from_slice(&head);
-        bytes[64..].copy_from_slice(&self.big);
-        bytes
-    }
-
-    /// The entry that 128 bytes hold.
-    pub fn from_bytes(bytes: &[u8; 128]) -> Entry128
-        ensures value { result ≡ large_entry_at bytes.now }
-        ensures inverse { large_entry_bytes result ≡ bytes.now }
-    {
-        let head: &[u8; 64] = bytes.first_chunk().unwrap();
-        let rest: &[u8; 64] = bytes.last_chunk().unwrap();
-        Entry128 {
-            entry: Entry::from_bytes(head),
-            big: *rest,
         }
     }
 }

@@ -4,15 +4,11 @@
 
 mod buffer;
 mod completion_bytes;
-mod completion_marker;
 pub mod cqueue;
 mod entry_bytes;
-mod entry_marker;
 mod events;
 mod flags;
 mod fsync_flags;
-mod large_completion;
-mod large_entry;
 mod lists;
 pub mod squeue;
 pub mod types;

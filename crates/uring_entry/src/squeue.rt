@@ -5,9 +5,7 @@ ghost use Rattle.uring_entry.specs.Words.{blank};
 ghost use Rattle.uring_entry.specs.FlagBits.{bits_in};
 ghost use Rattle.uring_entry.specs.Targets.{on};
 
-pub use crate::entry_marker::EntryMarker;
 pub use crate::flags::Flags;
-pub use crate::large_entry::Entry128;
 use crate::types::Target;
 use bitflags::Flags as _;
 

@@ -1,6 +1,6 @@
-use crate::squeue::{Entry, Entry128, Flags};
+use crate::squeue::{Entry, Flags};
 use crate::types::{Fd, Fixed, FsyncFlags, Target, UseTarget};
-use crate::{Buf, Loan, Nums, cqueue, squeue};
+use crate::{Buf, Loan, Nums, cqueue};
 use bitflags::Flags as _;
 use std::test::Fail;
 
@@ -138,82 +138,26 @@ fn words_of_bytes(rt: HostRuntime) {
     assert_eq!(rt; entry.to_bytes().as_slice(), bytes.as_slice());
 }
 
-/// A large entry: its setters, and its bytes, of which the last 64 lie behind those of a small one.
+/// A completion's 16 bytes, and the completion that they hold.
 #[test]
-fn large_entries(rt: HostRuntime) {
-    let mut large = Entry128::from(Entry::blank(46));
-    assert_eq!(rt; large.big.as_slice(), [0; 64].as_slice());
-    large.big[63] = 9;
-    let large = large
-        .flags(Flags::ASYNC)
-        .flags(Flags::IO_LINK)
-        .personality(0x102)
-        .user_data(3);
-    assert_eq!(rt; large.get_opcode(), 46);
-    assert_eq!(rt; large.get_user_data(), 3);
-    assert_eq!(rt; large.entry.flag_bits(), 20);
-    assert_eq!(rt; large.clear_flags().entry.flag_bits(), 0);
-    let bytes = large.to_bytes();
-    assert_eq!(rt; &bytes[..2], [46, 20].as_slice());
-    assert_eq!(rt; &bytes[42..44], [2, 1].as_slice());
-    assert_eq!(rt; &bytes[64..127], [0; 63].as_slice());
-    assert_eq!(rt; bytes[127], 9);
-    assert_eq!(rt; Entry128::from_bytes(&bytes), large);
-}
-
-/// Small and large completions, and their bytes.
-#[test]
-fn bytes_of_completions(rt: HostRuntime) {
-    let small = cqueue::Entry::from_parts(0x42, -2, 0x30001, [5, 6]);
-    let bytes = small.to_bytes();
+fn bytes_of_a_completion(rt: HostRuntime) {
+    let completion = cqueue::Entry::from_parts(0x42, -2, 0x30001, [5, 6]);
+    let bytes = completion.to_bytes();
     assert_eq!(rt; &bytes[..8], b"\x42\0\0\0\0\0\0\0".as_slice());
     assert_eq!(rt; &bytes[8..], b"\xfe\xff\xff\xff\x01\0\x03\0".as_slice());
-    assert_eq!(rt; cqueue::Entry::from_bytes(&bytes), small);
-    let large = cqueue::Entry32::from_parts(0x42, -2, 0x30001, [5, 0x600]);
-    assert_eq!(rt; large.result(), -2);
-    assert_eq!(rt; large.flags(), 0x30001);
-    assert_eq!(rt; large.big_cqe().as_slice(), [5, 0x600].as_slice());
-    assert_eq!(rt; cqueue::Entry::from(large), small);
-    let wide = large.to_bytes();
-    assert_eq!(rt; &wide[..16], bytes.as_slice());
-    assert_eq!(rt;
-        &wide[16..],
-        b"\x05\0\0\0\0\0\0\0\0\x06\0\0\0\0\0\0".as_slice()
-    );
-    assert_eq!(rt; cqueue::Entry32::from_bytes(&wide), large);
+    assert_eq!(rt; cqueue::Entry::from_bytes(&bytes), completion);
 }
 
-/// An entry of either size under another number: that number, the small entry, and the last of the
-/// bytes behind it.
-fn renumbered<E: squeue::EntryMarker>(mut entry: E, number: u64) -> (u64, Entry, u8) {
-    entry.set_user_data(number);
-    (entry.get_user_data(), entry.base(), entry.big()[63])
-}
-
-/// A completion of either size under another number: that number, what else it holds, and what it
-/// becomes.
-fn told<C: cqueue::EntryMarker>(number: u64) -> (u64, [u64; 2], cqueue::Entry) {
-    let mut completion = C::from_parts(1, -5, 2, [7, 8]);
-    completion.set_user_data(number);
-    (completion.user_data(), completion.big(), completion.into())
-}
-
-/// A number that is replaced reads as the new one, for entries and completions of both sizes.
+/// A number that is replaced reads as the new one.
 #[test]
 fn numbers(rt: HostRuntime) {
-    let nop = Entry::blank(0).on(Fd(-1).target());
-    assert_eq!(rt; nop.user_data(1).get_user_data(), 1);
-    assert_eq!(rt; renumbered(nop.user_data(1), 2), (2, nop.user_data(2), 0));
-    let mut large = Entry128::from(nop);
-    large.big[63] = 9;
-    assert_eq!(rt; large.user_data(3).get_user_data(), 3);
-    assert_eq!(rt; renumbered(large.user_data(3), 4), (4, nop.user_data(4), 9));
-    let small = cqueue::Entry::from_parts(2, -5, 2, [0; 2]);
-    assert_eq!(rt; told::<cqueue::Entry>(2), (2, [0; 2], small));
-    let small = cqueue::Entry::from_parts(4, -5, 2, [0; 2]);
-    assert_eq!(rt; told::<cqueue::Entry32>(4), (4, [7, 8], small));
-    assert_eq!(rt; <Entry as squeue::EntryMarker>::BUILD_FLAGS, 0);
-    assert_eq!(rt; <Entry128 as squeue::EntryMarker>::BUILD_FLAGS, 1024);
-    assert_eq!(rt; <cqueue::Entry as cqueue::EntryMarker>::BUILD_FLAGS, 0);
-    assert_eq!(rt; <cqueue::Entry32 as cqueue::EntryMarker>::BUILD_FLAGS, 2048);
+    let mut entry = Entry::blank(0).user_data(1);
+    assert_eq!(rt; entry.user_data(2).get_user_data(), 2);
+    entry.set_user_data(3);
+    assert_eq!(rt; entry.get_user_data(), 3);
+    let mut completion = cqueue::Entry::from_parts(4, -5, 2, [0; 2]);
+    completion.set_user_data(5);
+    assert_eq!(rt; completion.user_data(), 5);
+    assert_eq!(rt; completion.result(), -5);
+    assert_eq!(rt; completion.flags(), 2);
 }

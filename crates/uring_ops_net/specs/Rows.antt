@@ -1,7 +1,7 @@
 -- For each operation what its builder begins with, and the words of its entry: those that aren't 0, in the order of the layout.
 use Rattle.std.specs.Prelude.{ℕ, ℤ, pos, Option, None, false, bit_or, replicate, take, drop, if◌then◌else◌, ◌+◌, ◌*◌, ◌^◌, unwrap_or}
 use Rattle.uring_entry.specs.declared.squeue.Entry.{Entry}
-use Rattle.uring_entry.specs.declared.large_entry.Entry128.{Entry128}
+use Rattle.uring_large.specs.declared.squeue.Entry128.{Entry128}
 use Rattle.uring_entry.specs.declared.types.Fd.{Fd}
 use Rattle.uring_entry.specs.declared.types.Fixed.{Fixed}
 use Rattle.uring_entry.specs.declared.types.Target.{Target}

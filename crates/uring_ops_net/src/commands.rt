@@ -5,9 +5,10 @@ ghost use Rattle.uring_entry.specs.Words.{where_some};
 ghost use Rattle.uring_ops_net.specs.Marks.{cmd_fixed};
 
 use crate::marks::CMD_FIXED;
-use uring_entry::squeue::{Entry, Entry128};
+use uring_entry::squeue::Entry;
 use uring_entry::types::{Target, UseTarget};
 use uring_entry::words::long_from;
+use uring_large::squeue::Entry128;
 
 /// A command of 16 bytes to a file or device, much as `ioctl`. Its result is that of the command,
 /// or an errno below 0. Each field is what `new` was given, or what the setter of its name was.

@@ -2,10 +2,10 @@
 use Rattle.std.specs.Prelude.{◌≡◌, ℕ, ◌+◌, List, [], length, min}
 use Rattle.uring_entry.specs.declared.events.Taken.{Taken}
 use Rattle.uring_entry.specs.declared.events.Completion.{Completion}
-use Rattle.uring_entry.specs.Completions.{without_big}
-use Rattle.std.specs.Borrow.{Lends, MutBor, Fml}
+use Rattle.std.specs.Borrow.{Lends, MutBor, Fml, RattleType}
 use Rattle.uring_ring.specs.declared.io_uring.IoUring.{IoUring}
-use Rattle.uring_ring.specs.declared.setup.Parameters.{Parameters}
+use Rattle.ring_setup.specs.Setup.{told_entries, told_completions}
+use Rattle.ring_setup.specs.declared.parameters.Parameters.{Parameters}
 use Rattle.uring_ring.specs.declared.submission_ring.SubmissionRing.{SubmissionRing}
 use Rattle.uring_ring.specs.declared.submission_ring.SubmissionWords.{SubmissionWords}
 use Rattle.uring_ring.specs.declared.completion_ring.CompletionRing.{CompletionRing}
@@ -13,20 +13,20 @@ use Rattle.uring_ring.specs.declared.completion_ring.CompletionWords.{Completion
 use Rattle.uring_ring.specs.contracts.io_uring.IoUring as io_uring
 use Rattle.uring_ring.specs.contracts.submission_ring.SubmissionRing as submission_ring
 use Rattle.uring_ring.specs.contracts.completion_ring.CompletionRing as completion_ring
-use Rattle.uring_ring.specs.Positions.{Held}
-use Rattle.uring_ring.specs.Slots.{held_of}
+use Rattle.ring_core.specs.Held.{Held}
+use Rattle.ring_core.specs.Slots.{held_of}
 use Rattle.uring_ring.specs.Lists.{Lists, lists_between, Moves, Uses, Advances}
 
-abbrev pub entries_in : IoUring → Held Taken
+abbrev pub entries_in : {S C : Type 0} → IoUring S C → Held Taken
 entries_in ring = held_of ring.submissions.slots
 
-abbrev pub completions_in : IoUring → Held Completion
+abbrev pub completions_in : {S C : Type 0} → IoUring S C → Held Completion
 completions_in ring = held_of ring.completions.slots
 
-abbrev pub parameters_of : IoUring → Parameters
+abbrev pub parameters_of : {S C : Type 0} → IoUring S C → Parameters
 parameters_of ring = ring.parameters
 
-abbrev pub lists_of : IoUring → Lists
+abbrev pub lists_of : {S C : Type 0} → IoUring S C → Lists
 lists_of ring = lists_between (entries_in ring) (completions_in ring)
 
 -- the words beside the two rings
@@ -40,7 +40,7 @@ pub record Words : Type 0 where
   -- the flags that the user sets beside the completions
   pub completion_flags : ℕ
 
-abbrev pub words_of : IoUring → Words
+abbrev pub words_of : {S C : Type 0} → IoUring S C → Words
 words_of ring = record {
   flags = ring.submissions.words.flags;
   dropped = ring.submissions.words.dropped;
@@ -52,9 +52,9 @@ words_of ring = record {
 abbrev pub one_more : ℕ → ℕ
 one_more n = min (n + 1) 4294967295
 
--- these entries were taken and these completions posted
-pub record RingMoves (before : IoUring) (ts : List Taken) (cs : List Completion) (after : IoUring) : Type 0 where
-  pub lists : Moves without_big (lists_of before) ts cs (lists_of after)
+-- these entries were taken and these completions posted, of which the ring keeps so much
+pub record RingMoves {S C : Type 0} (kept : Completion → Completion) (before : IoUring S C) (ts : List Taken) (cs : List Completion) (after : IoUring S C) : Type 0 where
+  pub lists : Moves kept (lists_of before) ts cs (lists_of after)
   pub offer_place : (entries_in after).put_place ≡ (entries_in before).put_place
   pub reap_place : (completions_in after).take_place ≡ (completions_in before).take_place
   -- what the user has seen
@@ -63,7 +63,7 @@ pub record RingMoves (before : IoUring) (ts : List Taken) (cs : List Completion)
   pub parameters : parameters_of after ≡ parameters_of before
 
 -- these entries were offered and these completions reaped
-pub record RingUses (before : IoUring) (ts : List Taken) (cs : List Completion) (after : IoUring) : Type 0 where
+pub record RingUses {S C : Type 0} (before : IoUring S C) (ts : List Taken) (cs : List Completion) (after : IoUring S C) : Type 0 where
   pub lists : Uses (lists_of before) ts cs (lists_of after)
   pub offer_place : Advances (entries_in before).put_place (length ts) (entries_in after).put_place
   pub reap_place : Advances (completions_in before).take_place (length cs) (completions_in after).take_place
@@ -74,7 +74,7 @@ pub record RingUses (before : IoUring) (ts : List Taken) (cs : List Completion) 
   pub words : words_of after ≡ words_of before
 
 -- nothing stands in a pair of rings of these sizes, and its positions are the start
-pub record IsOpened (ring : IoUring) (capacity completion_capacity start : ℕ) : Type 0 where
+pub record IsOpened {S C : Type 0} (ring : IoUring S C) (capacity completion_capacity start : ℕ) : Type 0 where
   pub lists : lists_of ring ≡ record { capacity = capacity; published = []; pushed = []; completion_capacity = completion_capacity; completions = []; held = 0 }
   pub room : (entries_in ring).spare ≡ capacity
   pub waiting : (completions_in ring).waiting ≡ 0
@@ -85,15 +85,21 @@ pub record IsOpened (ring : IoUring) (capacity completion_capacity start : ℕ) 
   pub words : words_of ring ≡ record { flags = 0; dropped = 0; overflow = 0; completion_flags = 0 }
 
 -- the words of one of its rings, and of the other
-abbrev pub submission_words_in : IoUring → SubmissionWords
+abbrev pub submission_words_in : {S C : Type 0} → IoUring S C → SubmissionWords
 submission_words_in ring = ring.submissions.words
 
-abbrev pub completion_words_in : IoUring → CompletionWords
+abbrev pub completion_words_in : {S C : Type 0} → IoUring S C → CompletionWords
 completion_words_in ring = ring.completions.words
 
--- the ring ends with its submission ring, or its completion ring, as it is left behind the reference
-abbrev pub LendsSubmissions : MutBor IoUring → MutBor SubmissionRing → Fml
-LendsSubmissions ring lent = Lends io_uring.the_row submission_ring.the_row ring lent (λ left. record ring.now { submissions = left })
+-- the parameters of a ring tell how much fits in it
+pub record TellsSizes {S C : Type 0} (ring : IoUring S C) : Type 0 where
+  pub entries : told_entries (parameters_of ring) ≡ (lists_of ring).capacity
+  pub completions : told_completions (parameters_of ring) ≡ (lists_of ring).completion_capacity
 
-abbrev pub LendsCompletions : MutBor IoUring → MutBor CompletionRing → Fml
-LendsCompletions ring lent = Lends io_uring.the_row completion_ring.the_row ring lent (λ left. record ring.now { completions = left })
+-- the ring ends with its submission ring, or its completion ring, as it is left behind the reference
+module _ (S C : RattleType) (ring : MutBor (io_uring.the_row S C).Denot) where
+  abbrev pub LendsSubmissions : MutBor SubmissionRing → Fml
+  LendsSubmissions lent = Lends (io_uring.the_row S C) submission_ring.the_row ring lent (λ left. record ring.now { submissions = left })
+
+  abbrev pub LendsCompletions : MutBor CompletionRing → Fml
+  LendsCompletions lent = Lends (io_uring.the_row S C) completion_ring.the_row ring lent (λ left. record ring.now { completions = left })

@@ -3,20 +3,14 @@ use Rattle.std.proofs.Common.{◌≡◌, ℕ, ◌+◌, ◌%◌, ◌^◌, List, [
 use Rattle.std.proofs.Math.Nat.{add-mod}
 use Rattle.uring_entry.specs.declared.events.Taken.{Taken}
 use Rattle.uring_entry.specs.declared.events.Completion.{Completion}
-use Rattle.uring_ring.specs.declared.slots.Slots.{Slots}
 use Rattle.uring_ring.specs.declared.submission_ring.SubmissionRing.{SubmissionRing}
 use Rattle.uring_ring.specs.declared.completion_ring.CompletionRing.{CompletionRing}
 use Rattle.uring_ring.specs.declared.plain_side.PlainSide.{PlainSide}
 use Rattle.uring_ring.specs.PlainSide.{SideMoves, side_lists}
 use Rattle.uring_ring.specs.declared.io_uring.IoUring.{IoUring}
 use Rattle.uring_ring.specs.Lists.{Lists, lists_between, HasRoom, Moves, Uses, Advances}
-use Rattle.uring_ring.specs.Positions.{Fits}
-use Rattle.uring_ring.specs.Slots.{held_of}
+use Rattle.ring_core.specs.Slots.{held_of, held-fits}
 use Rattle.uring_ring.specs.IoUring.{lists_of, entries_in, completions_in, RingMoves, RingUses}
-
-pub held-fits : {T : Type 0} (ring : Slots T) → Fits (held_of ring)
-unfolding held_of
-held-fits ring = ring.fits
 
 pub has_room_between : (entries : SubmissionRing) (completions : CompletionRing) → HasRoom (lists_between (held_of entries.slots) (held_of completions.slots))
 has_room_between entries completions =
@@ -29,7 +23,7 @@ has_room_between entries completions =
       completions_small = c.capacity;
     }
 
-pub has_room : (ring : IoUring) → HasRoom (lists_of ring)
+pub has_room : {S C : Type 0} (ring : IoUring S C) → HasRoom (lists_of ring)
 has_room ring = has_room_between ring.submissions ring.completions
 
 pub Moves-none : (kept : Completion → Completion) (l : Lists) → Moves kept l [] [] l
@@ -68,12 +62,12 @@ Advances-then p q r ts us f g =
     let sum : p + length ts + length us ≡ p + length (ts ++ us) = omega (arith, length-append ts us) in
     g ∙ add-mod q (length us) (2 ^ 32) ∙ ap (λ (x : ℕ). (x + length us % 2 ^ 32) % 2 ^ 32) f ∙ sym (add-mod (p + length ts) (length us) (2 ^ 32)) ∙ ap (λ (x : ℕ). x % 2 ^ 32) sum
 
-pub RingMoves-none : (a : IoUring) → RingMoves a [] [] a
-RingMoves-none a = record { lists = Moves-none _ (lists_of a); offer_place = refl; reap_place = refl; room = refl; waiting = refl; parameters = refl }
+pub RingMoves-none : {S C : Type 0} (kept : Completion → Completion) (a : IoUring S C) → RingMoves kept a [] [] a
+RingMoves-none kept a = record { lists = Moves-none kept (lists_of a); offer_place = refl; reap_place = refl; room = refl; waiting = refl; parameters = refl }
 
-pub RingMoves-then : (a b c : IoUring) (ts us : List Taken) (cs ds : List Completion) → RingMoves a ts cs b → RingMoves b us ds c → RingMoves a (ts ++ us) (cs ++ ds) c
-RingMoves-then a b c ts us cs ds p q = record {
-  lists = Moves-then _ (lists_of a) (lists_of b) (lists_of c) ts us cs ds p.lists q.lists;
+pub RingMoves-then : {S C : Type 0} (kept : Completion → Completion) (a b c : IoUring S C) (ts us : List Taken) (cs ds : List Completion) → RingMoves kept a ts cs b → RingMoves kept b us ds c → RingMoves kept a (ts ++ us) (cs ++ ds) c
+RingMoves-then kept a b c ts us cs ds p q = record {
+  lists = Moves-then kept (lists_of a) (lists_of b) (lists_of c) ts us cs ds p.lists q.lists;
   offer_place = q.offer_place ∙ p.offer_place;
   reap_place = q.reap_place ∙ p.reap_place;
   room = q.room ∙ p.room;
@@ -81,10 +75,10 @@ RingMoves-then a b c ts us cs ds p q = record {
   parameters = q.parameters ∙ p.parameters;
 }
 
-pub RingUses-none : (a : IoUring) → RingUses a [] [] a
+pub RingUses-none : {S C : Type 0} (a : IoUring S C) → RingUses a [] [] a
 RingUses-none a = record { lists = Uses-none (lists_of a); offer_place = Advances-none _; reap_place = Advances-none _; ready = refl; space = refl; parameters = refl; words = refl }
 
-pub RingUses-then : (a b c : IoUring) (ts us : List Taken) (cs ds : List Completion) → RingUses a ts cs b → RingUses b us ds c → RingUses a (ts ++ us) (cs ++ ds) c
+pub RingUses-then : {S C : Type 0} (a b c : IoUring S C) (ts us : List Taken) (cs ds : List Completion) → RingUses a ts cs b → RingUses b us ds c → RingUses a (ts ++ us) (cs ++ ds) c
 RingUses-then a b c ts us cs ds p q = record {
   lists = Uses-then (lists_of a) (lists_of b) (lists_of c) ts us cs ds p.lists q.lists;
   offer_place = Advances-then (entries_in a).put_place (entries_in b).put_place (entries_in c).put_place ts us p.offer_place q.offer_place;
@@ -95,12 +89,12 @@ RingUses-then a b c ts us cs ds p q = record {
   words = q.words ∙ p.words;
 }
 
-pub SideMoves-none : (a : PlainSide) → SideMoves a [] [] a
-SideMoves-none a = record { lists = Moves-none _ (side_lists a); offer_place = refl; reap_place = refl; room = refl; waiting = refl; submissions = refl; completions = refl; entries_lent = refl; completions_lent = refl }
+pub SideMoves-none : {S C : Type 0} (kept : Completion → Completion) (a : PlainSide S C) → SideMoves kept a [] [] a
+SideMoves-none kept a = record { lists = Moves-none kept (side_lists a); offer_place = refl; reap_place = refl; room = refl; waiting = refl; submissions = refl; completions = refl; entries_lent = refl; completions_lent = refl }
 
-pub SideMoves-then : (a b c : PlainSide) (ts us : List Taken) (cs ds : List Completion) → SideMoves a ts cs b → SideMoves b us ds c → SideMoves a (ts ++ us) (cs ++ ds) c
-SideMoves-then a b c ts us cs ds p q = record {
-  lists = Moves-then _ (side_lists a) (side_lists b) (side_lists c) ts us cs ds p.lists q.lists;
+pub SideMoves-then : {S C : Type 0} (kept : Completion → Completion) (a b c : PlainSide S C) (ts us : List Taken) (cs ds : List Completion) → SideMoves kept a ts cs b → SideMoves kept b us ds c → SideMoves kept a (ts ++ us) (cs ++ ds) c
+SideMoves-then kept a b c ts us cs ds p q = record {
+  lists = Moves-then kept (side_lists a) (side_lists b) (side_lists c) ts us cs ds p.lists q.lists;
   offer_place = q.offer_place ∙ p.offer_place;
   reap_place = q.reap_place ∙ p.reap_place;
   room = q.room ∙ p.room;
@@ -111,5 +105,5 @@ SideMoves-then a b c ts us cs ds p q = record {
   completions_lent = q.completions_lent ∙ p.completions_lent;
 }
 
-pub side_has_room : (side : PlainSide) → HasRoom (side_lists side)
+pub side_has_room : {S C : Type 0} (side : PlainSide S C) → HasRoom (side_lists side)
 side_has_room side = has_room_between side.submissions.now.ring.now side.completions.now.ring.now

@@ -2,8 +2,7 @@ pub mod IoUring
 pub mod Laws
 pub mod Lists
 pub mod PlainSide
-pub mod Positions
 pub mod QueueLaws
 pub mod Queues
-pub mod Setup
-pub mod Slots
+pub mod SizeLaws
+pub mod Sizes

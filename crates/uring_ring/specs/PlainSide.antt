@@ -2,23 +2,22 @@
 use Rattle.std.specs.Prelude.{◌≡◌, List}
 use Rattle.uring_entry.specs.declared.events.Taken.{Taken}
 use Rattle.uring_entry.specs.declared.events.Completion.{Completion}
-use Rattle.uring_entry.specs.Completions.{without_big}
 use Rattle.uring_ring.specs.declared.plain_side.PlainSide.{PlainSide}
-use Rattle.uring_ring.specs.Positions.{Held}
+use Rattle.ring_core.specs.Held.{Held}
 use Rattle.uring_ring.specs.Lists.{Lists, lists_between, Moves}
 use Rattle.uring_ring.specs.IoUring.{Words}
 use Rattle.uring_ring.specs.Queues.{entries_at, completions_at, submission_words_at, completion_words_at}
 
-abbrev pub side_entries : PlainSide → Held Taken
+abbrev pub side_entries : {S C : Type 0} → PlainSide S C → Held Taken
 side_entries side = entries_at side.submissions.now
 
-abbrev pub side_completions : PlainSide → Held Completion
+abbrev pub side_completions : {S C : Type 0} → PlainSide S C → Held Completion
 side_completions side = completions_at side.completions.now
 
-abbrev pub side_lists : PlainSide → Lists
+abbrev pub side_lists : {S C : Type 0} → PlainSide S C → Lists
 side_lists side = lists_between (side_entries side) (side_completions side)
 
-abbrev pub side_words : PlainSide → Words
+abbrev pub side_words : {S C : Type 0} → PlainSide S C → Words
 side_words side = record {
   flags = (submission_words_at side.submissions.now).flags;
   dropped = (submission_words_at side.submissions.now).dropped;
@@ -27,8 +26,8 @@ side_words side = record {
 }
 
 -- these entries were taken and these completions posted; the same queue values lend the same rings
-pub record SideMoves (before : PlainSide) (ts : List Taken) (cs : List Completion) (after : PlainSide) : Type 0 where
-  pub lists : Moves without_big (side_lists before) ts cs (side_lists after)
+pub record SideMoves {S C : Type 0} (kept : Completion → Completion) (before : PlainSide S C) (ts : List Taken) (cs : List Completion) (after : PlainSide S C) : Type 0 where
+  pub lists : Moves kept (side_lists before) ts cs (side_lists after)
   pub offer_place : (side_entries after).put_place ≡ (side_entries before).put_place
   pub reap_place : (side_completions after).take_place ≡ (side_completions before).take_place
   -- what the user has seen

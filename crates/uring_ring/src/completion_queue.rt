@@ -3,11 +3,13 @@
 ghost use Rattle.std.specs.Prelude.{◌≡◌, ◌↔◌, ◌-◌, ◌<◌, ◌≤◌, ◌++◌, IsTrue, length, map, min, drop, Some};
 ghost use Rattle.std.specs.Iterator.{at_most};
 ghost use Rattle.uring_entry.specs.FlagBits.{has_bit};
-ghost use Rattle.uring_ring.specs.Slots.{held_of, with_head, with_tail_seen, taken_out};
-ghost use Rattle.uring_ring.specs.Queues.{completions_at, completion_words_at, completions_of_status, received_of, first_received, QueueSteps, with_flag, without_flag};
+ghost use Rattle.ring_core.specs.Slots.{held_of, with_head, with_tail_seen, taken_out};
+ghost use Rattle.uring_ring.specs.Queues.{completions_at, completion_words_at, completions_of_status, received_as, first_received, QueueSteps, with_flag, without_flag};
 
 use crate::completion_ring::CompletionRing;
-use uring_entry::{Completion, Loan, cqueue};
+use std::marker::PhantomData;
+use uring_entry::{Completion, Loan};
+use uring_large::cqueue::{Entry, EntryMarker};
 
 /// A completion entry and the loan that came back with it.
 #[derive(Drop)]
@@ -16,16 +18,17 @@ pub struct Received<C> {
     pub loan: Option<Loan>,
 }
 
-/// What a ring of small entries gives of a completion.
-fn entry_and_loan(completion: Completion) -> Received<cqueue::Entry>
-    ensures { result ≡ received_of completion }
+/// A completion as a ring of entries `C` gives it.
+fn received_as<C: EntryMarker>(completion: Completion) -> Received<C>
+    ensures { result ≡ received_as C.made_of completion }
 {
     Received {
-        entry: cqueue::Entry {
-            user_data: completion.user_data,
-            result: completion.result,
-            flags: completion.flags,
-        },
+        entry: C::from_parts(
+            completion.user_data,
+            completion.result,
+            completion.flags,
+            completion.big,
+        ),
         loan: completion.loan,
     }
 }
@@ -33,31 +36,32 @@ fn entry_and_loan(completion: Completion) -> Received<cqueue::Entry>
 /// The user's end of the completion ring: an iterator over the completions that waited when it
 /// last saw the partner's position, which it has seen when it was made. At its end it gives the
 /// slots of what it yielded back.
-pub struct CompletionQueue<'a> {
+pub struct CompletionQueue<'a, C = Entry> {
     pub(crate) ring: &'a mut CompletionRing,
+    pub(crate) size: PhantomData<C>,
 }
 
-impl Drop for CompletionQueue<'_> {
+impl<C> Drop for CompletionQueue<'_, C> {
     fn drop(self)
         ensures completions { held_of self.exit.0.now.slots ≡ with_head (completions_at self.entry) }
         ensures words { self.exit.0.now.words ≡ completion_words_at self.entry }
     {
-        let CompletionQueue { ring } = self;
+        let CompletionQueue { ring, size: _size } = self;
         ring.slots.publish_head();
     }
 }
 
-impl Iterator for CompletionQueue<'_> {
-    type Item = Received<cqueue::Entry>;
+impl<C: EntryMarker> Iterator for CompletionQueue<'_, C> {
+    type Item = Received<C>;
 
-    ghost next_gives = { QueueSteps };
+    ghost next_gives = { QueueSteps C.made_of };
 
     ghost remaining = { λ queue. at_most (completions_at queue).waiting };
 
-    fn next(&mut self) -> Option<Received<cqueue::Entry>> {
+    fn next(&mut self) -> Option<Received<C>> {
         let ring = &mut *self.ring;
         let completion = ring.slots.take()?;
-        Some(entry_and_loan(completion))
+        Some(received_as(completion))
     }
 
     fn size_hint(&self) -> (usize, Option<usize>) {
@@ -66,13 +70,13 @@ impl Iterator for CompletionQueue<'_> {
     }
 }
 
-impl ExactSizeIterator for CompletionQueue<'_> {
+impl<C: EntryMarker> ExactSizeIterator for CompletionQueue<'_, C> {
     fn len(&self) -> usize {
         self.ring.slots.waiting() as usize
     }
 }
 
-impl CompletionQueue<'_> {
+impl<C> CompletionQueue<'_, C> {
     /// Gives the slots of what was yielded back, and then sees what the partner has posted.
     pub fn sync(&mut self)
         ensures completions { completions_at self.new ≡ with_tail_seen (with_head (completions_at self.old)) }
@@ -144,11 +148,20 @@ impl CompletionQueue<'_> {
         self.ring.words.flags -= self.ring.words.flags % 2;
     }
 
+    /// What can be told of the ring without taking from it.
+    pub fn status(&self) -> CompletionStatus<'_>
+        ensures { completions_of_status result ≡ completions_at self.now }
+    {
+        CompletionStatus { ring: self.ring }
+    }
+}
+
+impl<C: EntryMarker> CompletionQueue<'_, C> {
     /// Moves as many completions as wait and fit to the front of the slice, and gives their
     /// number. What stands behind them in the slice stays.
-    pub fn fill(&mut self, into: &mut [Option<Received<cqueue::Entry>>]) -> usize
+    pub fn fill(&mut self, into: &mut [Option<Received<C>>]) -> usize
         ensures count { result ≡ min (completions_at self.old).waiting (length into.old) }
-        ensures items { into.new ≡ map Some (first_received result (completions_at self.old)) ++ drop result into.old }
+        ensures items { into.new ≡ map Some (first_received C.made_of result (completions_at self.old)) ++ drop result into.old }
         ensures completions { completions_at self.new ≡ taken_out result (completions_at self.old) }
         ensures words { completion_words_at self.new ≡ completion_words_at self.old }
         ensures same_reference { self.new.ring.ghost_name ≡ self.old.ring.ghost_name }
@@ -158,13 +171,6 @@ impl CompletionQueue<'_> {
             into[i] = self.next();
         }
         count
-    }
-
-    /// What can be told of the ring without taking from it.
-    pub fn status(&self) -> CompletionStatus<'_>
-        ensures { completions_of_status result ≡ completions_at self.now }
-    {
-        CompletionStatus { ring: self.ring }
     }
 }
 

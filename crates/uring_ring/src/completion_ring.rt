@@ -1,17 +1,35 @@
 //! The completion ring with the words beside it.
 
 ghost use Rattle.std.specs.Prelude.{◌≡◌, length};
-ghost use Rattle.uring_ring.specs.Slots.{held_of};
+ghost use Rattle.ring_core.specs.Slots.{held_of};
+ghost use Rattle.uring_ring.specs.Sizes.{kept_as};
 
-use crate::slots::Slots;
+use ring_core::Slots;
 use std::alloc::{AllocError, Global};
 use uring_entry::Completion;
+use uring_large::cqueue::EntryMarker;
 
 /// The words beside the completions. The user writes the flags, and the partner the counter.
 #[derive(Clone, Copy, PartialEq, Eq, Debug)]
 pub(crate) struct CompletionWords {
     pub(crate) flags: u32,
     pub(crate) overflow: u32,
+}
+
+/// A completion with as much of its two further numbers as an entry `C` holds.
+fn kept_as<C: EntryMarker>(completion: Completion) -> Completion
+    ensures { result ≡ kept_as C.made_of C.big_of completion }
+{
+    let entry = C::from_parts(
+        completion.user_data,
+        completion.result,
+        completion.flags,
+        completion.big,
+    );
+    Completion {
+        big: entry.big(),
+        ..completion
+    }
 }
 
 /// Completions with their loans, and the words beside them.
@@ -26,8 +44,7 @@ pub(crate) struct CompletionRing {
 impl CompletionRing {
     ghost use Rattle.std.specs.Prelude.{◌↔◌, ◌<◌, true, IfOk, IsOk, IfErr, OnOk, OnErr};
     ghost use Rattle.ring_core.specs.Positions.{is_ring_size};
-    ghost use Rattle.uring_entry.specs.Completions.{without_big};
-    ghost use Rattle.uring_ring.specs.Slots.{opened, with_head_seen, with_post};
+    ghost use Rattle.ring_core.specs.Slots.{opened, with_head_seen, with_post};
 
     pub(crate) fn new(
         alloc: Global,
@@ -57,11 +74,10 @@ impl CompletionRing {
         self.slots.spare()
     }
 
-    /// The partner posts a completion, of which a ring of small entries keeps all but the two
-    /// further numbers.
-    pub(crate) fn post(&mut self, completion: Completion) -> Result<(), Completion>
+    /// The partner posts a completion, of which a ring of entries `C` keeps what a `C` holds.
+    pub(crate) fn post<C: EntryMarker>(&mut self, completion: Completion) -> Result<(), Completion>
         ensures room { IsOk result ↔ (0 < (held_of self.old.slots).spare) }
-        ensures ok { OnOk result (held_of self.new.slots ≡ with_post (without_big completion) (held_of self.old.slots)) }
+        ensures ok { OnOk result (held_of self.new.slots ≡ with_post (kept_as C.made_of C.big_of completion) (held_of self.old.slots)) }
         ensures back { IfErr result (λ c. c ≡ completion) }
         ensures err { OnErr result (self.new ≡ self.old) }
         ensures words { self.new.words ≡ self.old.words }
@@ -69,10 +85,7 @@ impl CompletionRing {
         if self.slots.spare() == 0 {
             return Err(completion);
         }
-        self.slots.put(Completion {
-            big: [0; 2],
-            ..completion
-        });
+        self.slots.put(kept_as::<C>(completion));
         self.slots.publish_tail();
         Ok(())
     }

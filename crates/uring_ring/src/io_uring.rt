@@ -4,55 +4,39 @@ ghost use Rattle.std.specs.Prelude.{◌≡◌, ◌≤◌, length};
 
 use crate::completion_queue::CompletionQueue;
 use crate::completion_ring::CompletionRing;
-use crate::setup::{Builder, FEATURES, Parameters};
 use crate::sides::{PartnerSide, Rings, UserEnds};
 use crate::submission_queue::SubmissionQueue;
 use crate::submission_ring::SubmissionRing;
 use ring_core::SetupError;
+use ring_setup::Parameters;
 use std::alloc::{AllocError, Global};
+use std::marker::PhantomData;
 use uring_entry::squeue::Entry;
 use uring_entry::{Completion, Loan, Taken};
+use uring_large::cqueue;
 
-/// A submission ring of entries with their loans and a completion ring, for one thread that has
-/// the user's side and the partner's. All its memory is taken when it is made.
+/// A submission ring of entries `S` with their loans and a completion ring of entries `C`, for one
+/// thread that has the user's side and the partner's. All its memory is taken when it is made.
 #[derive(Drop)]
-pub struct IoUring {
+pub struct IoUring<S = Entry, C = cqueue::Entry> {
     submissions: SubmissionRing,
     completions: CompletionRing,
     parameters: Parameters,
+    sizes: PhantomData<(S, C)>,
 }
 
-impl IoUring {
-    ghost use Rattle.std.specs.Prelude.{◌*◌, ◌<◌, ◌↔◌, true, IfOk, IfErr};
+impl IoUring<Entry, cqueue::Entry> {
+    ghost use Rattle.std.specs.Prelude.{◌*◌, ◌<◌, ◌↔◌, IfOk, IfErr};
     ghost use Rattle.uring_entry.specs.Sizes.{rounded_up};
-    ghost use Rattle.ring_core.specs.Positions.{is_ring_size};
-    ghost use Rattle.uring_ring.specs.Setup.{default_builder, parameters_for, IsInvalidCount};
-    ghost use Rattle.std.specs.Borrow.{sem};
-    ghost use Rattle.uring_ring.specs.Slots.{with_head_seen, with_tail_seen};
-    ghost use Rattle.uring_ring.specs.IoUring.{IsOpened, parameters_of, entries_in, completions_in, submission_words_in, completion_words_in, LendsSubmissions, LendsCompletions};
-    ghost use Rattle.uring_ring.specs.Queues.{entries_at, completions_at, submission_words_at, completion_words_at};
+    ghost use Rattle.ring_setup.specs.Setup.{default_settings, parameters_for, IsInvalidCount};
+    ghost use Rattle.uring_ring.specs.IoUring.{IsOpened, TellsSizes, parameters_of};
 
-    /// What a ring is to be made with, as far as nothing is asked for.
-    pub fn builder() -> Builder
-        ensures { result ≡ default_builder }
-    {
-        Builder {
-            setup: 0,
-            features: FEATURES,
-            cq_entries: None,
-            start: 0,
-            sq_thread_idle: 0,
-            sq_thread_cpu: 0,
-            wq_fd: 0,
-            dontfork: false,
-        }
-    }
-
-    /// A ring for so many entries, rounded up to a power of two, and twice as many completions.
-    /// Its positions begin at 0.
+    /// A ring of small entries for so many of them, rounded up to a power of two, and twice as many
+    /// completions. Its positions begin at 0.
     pub fn new(alloc: Global, entries: u32) -> Result<IoUring, SetupError>
         ensures ok { IfOk result (λ ring. IsOpened ring (rounded_up entries) (2 * rounded_up entries) 0) }
-        ensures parameters { IfOk result (λ ring. parameters_of ring ≡ parameters_for default_builder entries) }
+        ensures parameters { IfOk result (λ ring. parameters_of ring ≡ parameters_for (default_settings 0) entries) }
+        ensures sizes { IfOk result TellsSizes }
         ensures valid { IfOk result (λ _. (0 < entries) × (entries ≤ 32768)) }
         ensures invalid { IfErr result (λ error. (error ≡ SetupError.Invalid) ↔ IsInvalidCount entries) }
     {
@@ -62,62 +46,83 @@ impl IoUring {
     /// The same, with positions that begin at `start`.
     pub fn with_start(alloc: Global, entries: u32, start: u32) -> Result<IoUring, SetupError>
         ensures ok { IfOk result (λ ring. IsOpened ring (rounded_up entries) (2 * rounded_up entries) start) }
-        ensures parameters { IfOk result (λ ring. parameters_of ring ≡ parameters_for default_builder entries) }
+        ensures parameters { IfOk result (λ ring. parameters_of ring ≡ parameters_for (default_settings 0) entries) }
+        ensures sizes { IfOk result TellsSizes }
         ensures valid { IfOk result (λ _. (0 < entries) × (entries ≤ 32768)) }
         ensures invalid { IfErr result (λ error. (error ≡ SetupError.Invalid) ↔ IsInvalidCount entries) }
     {
-        let builder = Builder {
-            start,
-            ..IoUring::builder()
-        };
-        builder.build(alloc, entries)
+        let mut builder = IoUring::<Entry, cqueue::Entry>::builder();
+        builder.start(start).build(alloc, entries)
     }
+}
 
-    fn open(alloc: Global, parameters: Parameters, start: u32) -> Result<IoUring, AllocError>
-        requires entries { is_ring_size parameters.sq_entries ≡ true }
-        requires completions { is_ring_size parameters.cq_entries ≡ true }
-        requires small { parameters.sq_entries ≤ 32768 }
-        ensures ok { IfOk result (λ ring. IsOpened ring parameters.sq_entries parameters.cq_entries start) }
+impl<S, C> IoUring<S, C> {
+    ghost use Rattle.std.specs.Prelude.{true, IfOk};
+    ghost use Rattle.std.specs.Borrow.{sem};
+    ghost use Rattle.ring_core.specs.Positions.{is_ring_size};
+    ghost use Rattle.ring_setup.specs.Setup.{told_entries, told_completions};
+    ghost use Rattle.ring_core.specs.Slots.{with_head_seen, with_tail_seen};
+    ghost use Rattle.uring_ring.specs.IoUring.{IsOpened, TellsSizes, lists_of, parameters_of, entries_in, completions_in, submission_words_in, completion_words_in, LendsSubmissions, LendsCompletions};
+    ghost use Rattle.uring_ring.specs.Queues.{entries_at, completions_at, submission_words_at, completion_words_at};
+
+    pub(crate) fn open(
+        alloc: Global,
+        parameters: Parameters,
+        start: u32,
+    ) -> Result<IoUring<S, C>, AllocError>
+        requires entries { is_ring_size (told_entries parameters) ≡ true }
+        requires completions { is_ring_size (told_completions parameters) ≡ true }
+        requires small { told_entries parameters ≤ 32768 }
+        ensures ok { IfOk result (λ ring. IsOpened ring (told_entries parameters) (told_completions parameters) start) }
         ensures parameters { IfOk result (λ ring. parameters_of ring ≡ parameters) }
+        ensures sizes { IfOk result TellsSizes }
     {
         Ok(IoUring {
-            submissions: SubmissionRing::new(alloc, parameters.sq_entries, start)?,
-            completions: CompletionRing::new(alloc, parameters.cq_entries, start)?,
+            submissions: SubmissionRing::new(alloc, parameters.sq_entries(), start)?,
+            completions: CompletionRing::new(alloc, parameters.cq_entries(), start)?,
             parameters,
+            sizes: PhantomData,
         })
     }
 
     /// What the ring was made with.
     pub fn params(&self) -> &Parameters
-        ensures { result.now ≡ parameters_of self.now }
+        ensures value { result.now ≡ parameters_of self.now }
+        ensures sizes { TellsSizes self.now → (told_entries result.now ≡ (lists_of self.now).capacity) × (told_completions result.now ≡ (lists_of self.now).completion_capacity) }
     {
         &self.parameters
     }
 
     /// The user's end of the submission ring. It sees what the partner has taken.
-    pub fn submission(&mut self) -> SubmissionQueue<'_>
-        ensures* lent { sem 𝓛 (LendsSubmissions self.entry result.ring) }
+    pub fn submission(&mut self) -> SubmissionQueue<'_, S>
+        ensures* lent { sem 𝓛 (LendsSubmissions S.row C.row self.entry result.ring) }
         ensures entries { entries_at result ≡ with_head_seen (entries_in self.old) }
         ensures words { submission_words_at result ≡ submission_words_in self.old }
     {
         let ring = &mut self.submissions;
         ring.slots.see_head();
-        SubmissionQueue { ring }
+        SubmissionQueue {
+            ring,
+            size: PhantomData,
+        }
     }
 
     /// The user's end of the completion ring. It sees what the partner has posted.
-    pub fn completion(&mut self) -> CompletionQueue<'_>
-        ensures* lent { sem 𝓛 (LendsCompletions self.entry result.ring) }
+    pub fn completion(&mut self) -> CompletionQueue<'_, C>
+        ensures* lent { sem 𝓛 (LendsCompletions S.row C.row self.entry result.ring) }
         ensures completions { completions_at result ≡ with_tail_seen (completions_in self.old) }
         ensures words { completion_words_at result ≡ completion_words_in self.old }
     {
         let ring = &mut self.completions;
         ring.slots.see_tail();
-        CompletionQueue { ring }
+        CompletionQueue {
+            ring,
+            size: PhantomData,
+        }
     }
 
     /// The user's ends of both rings at once. Each sees what the partner has done.
-    pub fn split(&mut self) -> (SubmissionQueue<'_>, CompletionQueue<'_>)
+    pub fn split(&mut self) -> (SubmissionQueue<'_, S>, CompletionQueue<'_, C>)
         ensures entries { entries_at result.0 ≡ with_head_seen (entries_in self.old) }
         ensures completions { completions_at result.1 ≡ with_tail_seen (completions_in self.old) }
         ensures submission_words { submission_words_at result.0 ≡ submission_words_in self.old }
@@ -128,40 +133,27 @@ impl IoUring {
         submissions.slots.see_head();
         completions.slots.see_tail();
         (
-            SubmissionQueue { ring: submissions },
-            CompletionQueue { ring: completions },
+            SubmissionQueue {
+                ring: submissions,
+                size: PhantomData,
+            },
+            CompletionQueue {
+                ring: completions,
+                size: PhantomData,
+            },
         )
     }
 }
 
-impl Builder {
-    ghost use Rattle.std.specs.Prelude.{◌↔◌, true, false, IfOk, IfErr};
-    ghost use Rattle.uring_entry.specs.Sizes.{rounded_up};
-    ghost use Rattle.uring_ring.specs.Setup.{is_buildable, parameters_for, asked_entries, asked_completions, start_of};
-    ghost use Rattle.uring_ring.specs.IoUring.{IsOpened, parameters_of};
-
-    /// Makes a ring.
-    pub fn build(&self, alloc: Global, entries: u32) -> Result<IoUring, SetupError>
-        ensures ok { IfOk result (λ ring. IsOpened ring (rounded_up (asked_entries self.now entries)) (rounded_up (asked_completions self.now entries)) (start_of self.now)) }
-        ensures parameters { IfOk result (λ ring. parameters_of ring ≡ parameters_for self.now entries) }
-        ensures valid { IfOk result (λ _. is_buildable self.now entries ≡ true) }
-        ensures invalid { IfErr result (λ error. (error ≡ SetupError.Invalid) ↔ (is_buildable self.now entries ≡ false)) }
-    {
-        let parameters = self.parameters(entries)?;
-        let ring = IoUring::open(alloc, parameters, self.start)?;
-        Ok(ring)
-    }
-}
-
-impl Rings for IoUring {
+impl<S, C: cqueue::EntryMarker> Rings for IoUring<S, C> {
     ghost use Rattle.std.specs.Prelude.{Some, refl};
-    ghost use Rattle.uring_entry.specs.Completions.{without_big};
+    ghost use Rattle.uring_ring.specs.Sizes.{kept_as};
     ghost use Rattle.uring_ring.specs.IoUring.{lists_of, entries_in, completions_in};
     ghost use Rattle.uring_ring.specs.Laws.{has_room};
 
     ghost lists = { λ ring. Some (lists_of ring) };
 
-    ghost kept = { without_big };
+    ghost kept = { kept_as C.made_of C.big_of };
 
     ghost offer_place = { λ ring. (entries_in ring).put_place };
 
@@ -172,14 +164,15 @@ impl Rings for IoUring {
     ghost keeps = { λ _. refl };
 }
 
-impl PartnerSide for IoUring {
+impl<S, C: cqueue::EntryMarker> PartnerSide for IoUring<S, C> {
     ghost use Rattle.std.specs.Prelude.{◌+◌, ◌<◌, ◌↔◌, [], ◌∷◌, IsOk, IsSome, OnOk, OnErr, IfErr};
     ghost use Rattle.std.specs.Option.{option_to_list};
     ghost use Rattle.uring_ring.specs.Lists.{room_of};
+    ghost use Rattle.uring_ring.specs.Sizes.{kept_as};
     ghost use Rattle.uring_ring.specs.IoUring.{RingMoves, lists_of, entries_in, completions_in, words_of, one_more};
     ghost use Rattle.uring_ring.specs.Laws.{RingMoves-none, RingMoves-then};
 
-    ghost moved = { RingMoves };
+    ghost moved = { RingMoves (kept_as C.made_of C.big_of) };
 
     ghost ready = { λ ring. (entries_in ring).waiting };
 
@@ -189,7 +182,7 @@ impl PartnerSide for IoUring {
 
     // Each call of this side has the trait's clauses, and says what the words beside the rings are.
     fn published(&mut self) -> u32
-        ensures moved { RingMoves self.old [] [] self.new }
+        ensures moved { RingMoves (kept_as C.made_of C.big_of) self.old [] [] self.new }
         ensures count { result ≡ (entries_in self.new).waiting }
         ensures grows { (entries_in self.old).waiting ≤ (entries_in self.new).waiting }
         ensures space { (completions_in self.new).spare ≡ (completions_in self.old).spare }
@@ -200,7 +193,7 @@ impl PartnerSide for IoUring {
     }
 
     fn take(&mut self) -> Option<Taken>
-        ensures moved { RingMoves self.old (option_to_list result) [] self.new }
+        ensures moved { RingMoves (kept_as C.made_of C.big_of) self.old (option_to_list result) [] self.new }
         ensures some { IsSome result ↔ (0 < (entries_in self.old).waiting) }
         ensures count { (entries_in self.old).waiting ≡ (entries_in self.new).waiting + length (option_to_list result) }
         ensures space { (completions_in self.new).spare ≡ (completions_in self.old).spare }
@@ -210,7 +203,7 @@ impl PartnerSide for IoUring {
     }
 
     fn room(&mut self) -> u32
-        ensures moved { RingMoves self.old [] [] self.new }
+        ensures moved { RingMoves (kept_as C.made_of C.big_of) self.old [] [] self.new }
         ensures count { result ≡ (completions_in self.new).spare }
         ensures grows { (completions_in self.old).spare ≤ (completions_in self.new).spare }
         ensures ready { (entries_in self.new).waiting ≡ (entries_in self.old).waiting }
@@ -222,13 +215,13 @@ impl PartnerSide for IoUring {
 
     fn post(&mut self, completion: Completion) -> Result<(), Completion>
         ensures room { IsOk result ↔ (0 < (completions_in self.old).spare) }
-        ensures ok { OnOk result (RingMoves self.old [] (completion ∷ []) self.new × ((completions_in self.old).spare ≡ (completions_in self.new).spare + 1)) }
+        ensures ok { OnOk result (RingMoves (kept_as C.made_of C.big_of) self.old [] (completion ∷ []) self.new × ((completions_in self.old).spare ≡ (completions_in self.new).spare + 1)) }
         ensures back { IfErr result (λ c. c ≡ completion) }
         ensures err { OnErr result (self.new ≡ self.old) }
         ensures ready { (entries_in self.new).waiting ≡ (entries_in self.old).waiting }
         ensures words { words_of self.new ≡ words_of self.old }
     {
-        self.completions.post(completion)
+        self.completions.post::<C>(completion)
     }
 
     fn sq_flags(&self) -> u32 {
@@ -236,7 +229,7 @@ impl PartnerSide for IoUring {
     }
 
     fn set_sq_flags(&mut self, flags: u32)
-        ensures moved { RingMoves self.old [] [] self.new }
+        ensures moved { RingMoves (kept_as C.made_of C.big_of) self.old [] [] self.new }
         ensures known { ((entries_in self.new).waiting ≡ (entries_in self.old).waiting) × ((completions_in self.new).spare ≡ (completions_in self.old).spare) }
         ensures words { words_of self.new ≡ record (words_of self.old) { flags = flags } }
     {
@@ -244,7 +237,7 @@ impl PartnerSide for IoUring {
     }
 
     fn add_dropped(&mut self)
-        ensures moved { RingMoves self.old [] [] self.new }
+        ensures moved { RingMoves (kept_as C.made_of C.big_of) self.old [] [] self.new }
         ensures known { ((entries_in self.new).waiting ≡ (entries_in self.old).waiting) × ((completions_in self.new).spare ≡ (completions_in self.old).spare) }
         ensures words { words_of self.new ≡ record (words_of self.old) { dropped = one_more (words_of self.old).dropped } }
     {
@@ -253,7 +246,7 @@ impl PartnerSide for IoUring {
     }
 
     fn add_overflow(&mut self)
-        ensures moved { RingMoves self.old [] [] self.new }
+        ensures moved { RingMoves (kept_as C.made_of C.big_of) self.old [] [] self.new }
         ensures known { ((entries_in self.new).waiting ≡ (entries_in self.old).waiting) × ((completions_in self.new).spare ≡ (completions_in self.old).spare) }
         ensures words { words_of self.new ≡ record (words_of self.old) { overflow = one_more (words_of self.old).overflow } }
     {
@@ -261,16 +254,16 @@ impl PartnerSide for IoUring {
         self.completions.words.overflow = overflow.saturating_add(1);
     }
 
-    ghost moved_none = { RingMoves-none };
+    ghost moved_none = { RingMoves-none _ };
 
-    ghost moved_then = { RingMoves-then };
+    ghost moved_then = { RingMoves-then _ };
 
     ghost moved_told = { λ a b ts cs moves. moves.lists };
 
     ghost moved_places = { λ a b ts cs moves. (moves.offer_place, moves.reap_place) };
 }
 
-impl UserEnds for IoUring {
+impl<S, C: cqueue::EntryMarker> UserEnds for IoUring<S, C> {
     ghost use Rattle.std.specs.Prelude.{refl};
     ghost use Rattle.uring_ring.specs.IoUring.{RingUses, entries_in, completions_in};
     ghost use Rattle.uring_ring.specs.Laws.{RingUses-none, RingUses-then};

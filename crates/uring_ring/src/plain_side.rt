@@ -5,22 +5,24 @@ ghost use Rattle.std.specs.Prelude.{◌≡◌, ◌≤◌, length};
 use crate::completion_queue::CompletionQueue;
 use crate::sides::{PartnerSide, Rings};
 use crate::submission_queue::SubmissionQueue;
+use uring_entry::squeue::Entry;
 use uring_entry::{Completion, Taken};
+use uring_large::cqueue;
 
 /// The partner's side of the rings that two queue values lend. What the queue values last saw
 /// stays as it is.
 #[derive(Drop)]
-pub struct PlainSide<'a, 'q> {
-    submissions: &'a mut SubmissionQueue<'q>,
-    completions: &'a mut CompletionQueue<'q>,
+pub struct PlainSide<'a, 'q, S = Entry, C = cqueue::Entry> {
+    submissions: &'a mut SubmissionQueue<'q, S>,
+    completions: &'a mut CompletionQueue<'q, C>,
 }
 
-impl<'a, 'q> PlainSide<'a, 'q> {
+impl<'a, 'q, S, C> PlainSide<'a, 'q, S, C> {
     /// The partner's side of these two queue values' rings.
     pub fn of(
-        submissions: &'a mut SubmissionQueue<'q>,
-        completions: &'a mut CompletionQueue<'q>,
-    ) -> PlainSide<'a, 'q>
+        submissions: &'a mut SubmissionQueue<'q, S>,
+        completions: &'a mut CompletionQueue<'q, C>,
+    ) -> PlainSide<'a, 'q, S, C>
         ensures submissions { result.submissions.ghost_name ≡ submissions.entry.ghost_name }
         ensures completions { result.completions.ghost_name ≡ completions.entry.ghost_name }
         ensures entries { result.submissions.now ≡ submissions.old }
@@ -33,15 +35,15 @@ impl<'a, 'q> PlainSide<'a, 'q> {
     }
 }
 
-impl Rings for PlainSide<'_, '_> {
+impl<S, C: cqueue::EntryMarker> Rings for PlainSide<'_, '_, S, C> {
     ghost use Rattle.std.specs.Prelude.{Some, refl};
-    ghost use Rattle.uring_entry.specs.Completions.{without_big};
+    ghost use Rattle.uring_ring.specs.Sizes.{kept_as};
     ghost use Rattle.uring_ring.specs.PlainSide.{side_lists, side_entries, side_completions};
     ghost use Rattle.uring_ring.specs.Laws.{side_has_room};
 
     ghost lists = { λ side. Some (side_lists side) };
 
-    ghost kept = { without_big };
+    ghost kept = { kept_as C.made_of C.big_of };
 
     ghost offer_place = { λ side. (side_entries side).put_place };
 
@@ -52,15 +54,16 @@ impl Rings for PlainSide<'_, '_> {
     ghost keeps = { λ _. refl };
 }
 
-impl PartnerSide for PlainSide<'_, '_> {
+impl<S, C: cqueue::EntryMarker> PartnerSide for PlainSide<'_, '_, S, C> {
     ghost use Rattle.std.specs.Prelude.{◌+◌, ◌<◌, ◌↔◌, ◌⊎◌, [], ◌∷◌, IsOk, IsSome, OnOk, OnErr, IfErr};
     ghost use Rattle.std.specs.Option.{option_to_list};
     ghost use Rattle.uring_ring.specs.Lists.{room_of};
+    ghost use Rattle.uring_ring.specs.Sizes.{kept_as};
     ghost use Rattle.uring_ring.specs.IoUring.{one_more};
     ghost use Rattle.uring_ring.specs.PlainSide.{SideMoves, side_lists, side_entries, side_completions, side_words};
     ghost use Rattle.uring_ring.specs.Laws.{SideMoves-none, SideMoves-then};
 
-    ghost moved = { SideMoves };
+    ghost moved = { SideMoves (kept_as C.made_of C.big_of) };
 
     ghost ready = { λ side. (side_entries side).waiting };
 
@@ -70,7 +73,7 @@ impl PartnerSide for PlainSide<'_, '_> {
 
     // Each call has the trait's clauses, and says what the words beside the rings are.
     fn published(&mut self) -> u32
-        ensures moved { SideMoves self.old [] [] self.new }
+        ensures moved { SideMoves (kept_as C.made_of C.big_of) self.old [] [] self.new }
         ensures count { result ≡ (side_entries self.new).waiting }
         ensures grows { (side_entries self.old).waiting ≤ (side_entries self.new).waiting }
         ensures space { (side_completions self.new).spare ≡ (side_completions self.old).spare }
@@ -81,7 +84,7 @@ impl PartnerSide for PlainSide<'_, '_> {
     }
 
     fn take(&mut self) -> Option<Taken>
-        ensures moved { SideMoves self.old (option_to_list result) [] self.new }
+        ensures moved { SideMoves (kept_as C.made_of C.big_of) self.old (option_to_list result) [] self.new }
         ensures some { IsSome result ↔ (0 < (side_entries self.old).waiting) }
         ensures count { (side_entries self.old).waiting ≡ (side_entries self.new).waiting + length (option_to_list result) }
         ensures space { (side_completions self.new).spare ≡ (side_completions self.old).spare }
@@ -91,7 +94,7 @@ impl PartnerSide for PlainSide<'_, '_> {
     }
 
     fn room(&mut self) -> u32
-        ensures moved { SideMoves self.old [] [] self.new }
+        ensures moved { SideMoves (kept_as C.made_of C.big_of) self.old [] [] self.new }
         ensures count { result ≡ (side_completions self.new).spare }
         ensures grows { (side_completions self.old).spare ≤ (side_completions self.new).spare }
         ensures ready { (side_entries self.new).waiting ≡ (side_entries self.old).waiting }
@@ -103,13 +106,13 @@ impl PartnerSide for PlainSide<'_, '_> {
 
     fn post(&mut self, completion: Completion) -> Result<(), Completion>
         ensures room { IsOk result ↔ (0 < (side_completions self.old).spare) }
-        ensures ok { OnOk result (SideMoves self.old [] (completion ∷ []) self.new × ((side_completions self.old).spare ≡ (side_completions self.new).spare + 1)) }
+        ensures ok { OnOk result (SideMoves (kept_as C.made_of C.big_of) self.old [] (completion ∷ []) self.new × ((side_completions self.old).spare ≡ (side_completions self.new).spare + 1)) }
         ensures back { IfErr result (λ c. c ≡ completion) }
         ensures err { OnErr result (self.new ≡ self.old) }
         ensures ready { (side_entries self.new).waiting ≡ (side_entries self.old).waiting }
         ensures words { side_words self.new ≡ side_words self.old }
     {
-        self.completions.ring.post(completion)
+        self.completions.ring.post::<C>(completion)
     }
 
     fn sq_flags(&self) -> u32 {
@@ -117,7 +120,7 @@ impl PartnerSide for PlainSide<'_, '_> {
     }
 
     fn set_sq_flags(&mut self, flags: u32)
-        ensures moved { SideMoves self.old [] [] self.new }
+        ensures moved { SideMoves (kept_as C.made_of C.big_of) self.old [] [] self.new }
         ensures known { ((side_entries self.new).waiting ≡ (side_entries self.old).waiting) × ((side_completions self.new).spare ≡ (side_completions self.old).spare) }
         ensures word { ((side_words self.new).flags ≡ flags) ⊎ ((side_words self.new).flags ≡ 0) }
         ensures words { side_words self.new ≡ record (side_words self.old) { flags = flags } }
@@ -128,7 +131,7 @@ impl PartnerSide for PlainSide<'_, '_> {
     }
 
     fn add_dropped(&mut self)
-        ensures moved { SideMoves self.old [] [] self.new }
+        ensures moved { SideMoves (kept_as C.made_of C.big_of) self.old [] [] self.new }
         ensures known { ((side_entries self.new).waiting ≡ (side_entries self.old).waiting) × ((side_completions self.new).spare ≡ (side_completions self.old).spare) }
         ensures words { side_words self.new ≡ record (side_words self.old) { dropped = one_more (side_words self.old).dropped } }
     {
@@ -138,7 +141,7 @@ impl PartnerSide for PlainSide<'_, '_> {
     }
 
     fn add_overflow(&mut self)
-        ensures moved { SideMoves self.old [] [] self.new }
+        ensures moved { SideMoves (kept_as C.made_of C.big_of) self.old [] [] self.new }
         ensures known { ((side_entries self.new).waiting ≡ (side_entries self.old).waiting) × ((side_completions self.new).spare ≡ (side_completions self.old).spare) }
         ensures words { side_words self.new ≡ record (side_words self.old) { overflow = one_more (side_words self.old).overflow } }
     {
@@ -147,9 +150,9 @@ impl PartnerSide for PlainSide<'_, '_> {
         ring.words.overflow = ring.words.overflow.saturating_add(1);
     }
 
-    ghost moved_none = { SideMoves-none };
+    ghost moved_none = { SideMoves-none _ };
 
-    ghost moved_then = { SideMoves-then };
+    ghost moved_then = { SideMoves-then _ };
 
     ghost moved_told = { λ a b ts cs moves. moves.lists };
 

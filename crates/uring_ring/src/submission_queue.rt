@@ -2,14 +2,15 @@
 
 ghost use Rattle.std.specs.Prelude.{◌≡◌, ◌↔◌, ◌-◌, ◌<◌, ◌≤◌, IsTrue, IsOk, OnOk, OnErr, IfErr, length, map, nat_eq, ⊤};
 ghost use Rattle.uring_entry.specs.FlagBits.{has_bit};
-ghost use Rattle.uring_ring.specs.Lists.{small};
-ghost use Rattle.uring_ring.specs.Slots.{held_of, with_put, with_puts, with_tail, with_head_seen};
-ghost use Rattle.uring_ring.specs.Queues.{entries_at, submission_words_at, unlent, refused};
+ghost use Rattle.ring_core.specs.Slots.{held_of, with_put, with_puts, with_tail, with_head_seen};
+ghost use Rattle.uring_ring.specs.Queues.{entries_at, submission_words_at, refused};
+ghost use Rattle.uring_ring.specs.Sizes.{taken_as, unlent};
 
 use crate::submission_ring::SubmissionRing;
 use std::fmt;
-use uring_entry::squeue::Entry;
+use std::marker::PhantomData;
 use uring_entry::{Loan, Taken};
+use uring_large::squeue::{Entry, EntryMarker};
 
 /// The submission queue was full.
 #[derive(Clone, Copy, PartialEq, Eq, Debug)]
@@ -31,26 +32,38 @@ pub struct Refused<S> {
 
 /// The user's end of the submission ring. It has seen the partner's position when it was made,
 /// and sees it again when it is told to. At its end it shows the partner what was pushed.
-pub struct SubmissionQueue<'a> {
+pub struct SubmissionQueue<'a, S = Entry> {
     pub(crate) ring: &'a mut SubmissionRing,
+    pub(crate) size: PhantomData<S>,
 }
 
-impl Drop for SubmissionQueue<'_> {
+impl<S> Drop for SubmissionQueue<'_, S> {
     fn drop(self)
         ensures entries { held_of self.exit.0.now.slots ≡ with_tail (entries_at self.entry) }
         ensures words { self.exit.0.now.words ≡ submission_words_at self.entry }
     {
-        let SubmissionQueue { ring } = self;
+        let SubmissionQueue { ring, size: _size } = self;
         ring.slots.publish_tail();
     }
 }
 
-impl SubmissionQueue<'_> {
+/// An entry of either size as it stands in the ring, with its loan.
+fn taken_as<S: EntryMarker>(entry: &S, loan: Option<Loan>) -> Taken
+    ensures { result ≡ taken_as S.entry_of S.big_of entry.now loan }
+{
+    Taken {
+        entry: entry.base(),
+        big: entry.big(),
+        loan,
+    }
+}
+
+impl<S: EntryMarker> SubmissionQueue<'_, S> {
     /// Puts an entry and its loan behind, or gives both back where the queue was full as last
     /// seen. The partner doesn't see it before it is published.
-    pub fn push(&mut self, entry: Entry, loan: Option<Loan>) -> Result<(), Refused<Entry>>
+    pub fn push(&mut self, entry: S, loan: Option<Loan>) -> Result<(), Refused<S>>
         ensures room { IsOk result ↔ (0 < (entries_at self.old).spare) }
-        ensures ok { OnOk result (entries_at self.new ≡ with_put (small entry loan) (entries_at self.old)) }
+        ensures ok { OnOk result (entries_at self.new ≡ with_put (taken_as S.entry_of S.big_of entry loan) (entries_at self.old)) }
         ensures back { IfErr result (λ r. r ≡ refused entry loan) }
         ensures err { OnErr result (entries_at self.new ≡ entries_at self.old) }
         ensures words { submission_words_at self.new ≡ submission_words_at self.old }
@@ -64,18 +77,14 @@ impl SubmissionQueue<'_> {
                 loan,
             });
         }
-        ring.slots.put(Taken {
-            entry,
-            big: [0; 64],
-            loan,
-        });
+        ring.slots.put(taken_as(&entry, loan));
         Ok(())
     }
 
     /// Puts entries without loans behind, or none of them where not all fit as last seen.
-    pub fn push_multiple(&mut self, entries: &[Entry]) -> Result<(), PushError>
+    pub fn push_multiple(&mut self, entries: &[S]) -> Result<(), PushError>
         ensures room { IsOk result ↔ (length entries.now ≤ (entries_at self.old).spare) }
-        ensures ok { OnOk result (entries_at self.new ≡ with_puts (map unlent entries.now) (entries_at self.old)) }
+        ensures ok { OnOk result (entries_at self.new ≡ with_puts (map (unlent S.entry_of S.big_of) entries.now) (entries_at self.old)) }
         ensures err { OnErr result (entries_at self.new ≡ entries_at self.old) }
         ensures words { submission_words_at self.new ≡ submission_words_at self.old }
         ensures same_reference { self.new.ring.ghost_name ≡ self.old.ring.ghost_name }
@@ -85,15 +94,13 @@ impl SubmissionQueue<'_> {
             return Err(PushError);
         }
         for entry in entries {
-            ring.slots.put(Taken {
-                entry: *entry,
-                big: [0; 64],
-                loan: None,
-            });
+            ring.slots.put(taken_as(entry, None));
         }
         Ok(())
     }
+}
 
+impl<S> SubmissionQueue<'_, S> {
     /// Shows the partner what was pushed, and then sees what it has taken.
     pub fn sync(&mut self)
         ensures entries { entries_at self.new ≡ with_head_seen (with_tail (entries_at self.old)) }

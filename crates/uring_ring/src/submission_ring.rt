@@ -1,9 +1,9 @@
 //! The submission ring with the words beside it.
 
 ghost use Rattle.std.specs.Prelude.{◌≡◌, ◌≤◌};
-ghost use Rattle.uring_ring.specs.Slots.{held_of};
+ghost use Rattle.ring_core.specs.Slots.{held_of};
 
-use crate::slots::Slots;
+use ring_core::Slots;
 use std::alloc::{AllocError, Global};
 use uring_entry::Taken;
 
@@ -27,7 +27,7 @@ pub(crate) struct SubmissionRing {
 impl SubmissionRing {
     ghost use Rattle.std.specs.Prelude.{◌↔◌, ◌<◌, length, true, IfOk, IsSome, MatchOption};
     ghost use Rattle.ring_core.specs.Positions.{is_ring_size};
-    ghost use Rattle.uring_ring.specs.Slots.{opened, with_tail_seen, TakesForGood};
+    ghost use Rattle.ring_core.specs.Slots.{opened, with_tail_seen, TakesForGood};
 
     pub(crate) fn new(
         alloc: Global,

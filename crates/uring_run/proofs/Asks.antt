@@ -95,13 +95,13 @@ numbered_all n (job ∷ next ∷ jobs) = (refl, numbered_all (n + 1) (next ∷ j
 
 -- the loans
 
-same_number : (j : ℕ) → not (nat_eq j j) ≡ false
-same_number j = grind (arith, nat_tests)
+no_other_number : (j : ℕ) → not (nat_eq j j) ≡ false
+no_other_number j = grind (arith, nat_tests)
 
 own_number : (j : ℕ) (kind : JobKind) → has_other_number j (loan_of j kind) ≡ false
 own_number j Nop = refl
-own_number j (Read file offset buf) = same_number j
-own_number j (Write file offset buf) = same_number j
+own_number j (Read file offset buf) = no_other_number j
+own_number j (Write file offset buf) = no_other_number j
 own_number j (Fsync file) = refl
 own_number j (Ftruncate file len) = refl
 own_number j (Cancel target) = refl

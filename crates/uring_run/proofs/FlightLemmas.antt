@@ -138,7 +138,7 @@ pub known_once : (b : Bool) (k : ℕ) → k ≡ cond b 1 0 → 0 < k → b ≡ t
 known_once true k e h = refl
 known_once false k e h = absurd (omega (arith, e, h))
 
-same_number : (m n : ℕ) → nat_eq m n ≡ true → m ≡ n
+pub same_number : (m n : ℕ) → nat_eq m n ≡ true → m ≡ n
 same_number m n e = grind (arith, nat_tests)
 
 -- by whether two numbers are one

@@ -31,7 +31,7 @@ slots-length n (offer ∷ offers) cs = ap suc (slots-length (n + 1) offers cs)
 
 -- one more completion
 
-passes : {A : Type 0} (b : Bool) (x : A) (o : Option A) → cond b (Some x) o ≡ None → (b ≡ false) × (o ≡ None)
+pub passes : {A : Type 0} (b : Bool) (x : A) (o : Option A) → cond b (Some x) o ≡ None → (b ≡ false) × (o ≡ None)
 passes true x o e = let bad : Some x ≡ None = e in cc
 passes false x o e = (refl, e)
 

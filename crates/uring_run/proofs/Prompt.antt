@@ -13,7 +13,7 @@ use Rattle.uring_partner.specs.Calls.{IsTurnOf}
 use Rattle.uring_run.specs.declared.slot.Slot.{Slot}
 use Rattle.uring_run.specs.Laws.{ModelLaws}
 use Rattle.uring_run.specs.Slots.{count_open, is_stranger, land_one, land_all, stranger_among, any_final}
-use Rattle.uring_run.proofs.Posts.{one_landed}
+use Rattle.uring_run.proofs.Posts.{one_landed, passes}
 
 pub served_some : (a : PartnerState) (ms : List Move) (o : Option PartnerState) → IsServed (Some a) ms o → (b : PartnerState) × (o ≡ Some b) × Steps true a ms b
 served_some a ms None h = absurd (h tt)
@@ -42,11 +42,6 @@ final_any [] f h = absurd (omega arith)
 final_any (c ∷ cs) f h = rw f.0 refl
 
 -- each of them ends a job
-
-passes : (b : Bool) (u : ℕ) (o : Option ℕ) → cond b (Some u) o ≡ None → (b ≡ false) × (o ≡ None)
-passes true u o e = let bad : Some u ≡ None = e in cc
-passes false u o e = (refl, e)
-
 pub each_lands : (started : ℕ) (slots : List Slot) (cs : List Completion) → AllFinal cs → stranger_among started slots cs ≡ None → count_open (land_all slots cs) + length cs ≡ count_open slots
 each_lands started slots [] f h = omega arith
 each_lands started slots (c ∷ cs) f h =

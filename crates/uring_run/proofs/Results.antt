@@ -32,6 +32,7 @@ use Rattle.uring_run.specs.Told.{Ending, first_final, reply_for, lends, heard, o
 use Rattle.uring_run.specs.Slots.{count_open, final_of, told_slot, slots_from}
 use Rattle.uring_run.specs.Memory.{outcome_told, outcomes_told}
 use Rattle.uring_run.specs.Runs.{outcomes_from}
+use Rattle.uring_run.proofs.FlightLemmas.{same_number}
 use Rattle.uring_run.proofs.Posts.{final_not, final_last, same_final}
 use Rattle.uring_run.proofs.Prompt.{AllFinal}
 use Rattle.uring_run.proofs.Asks.{Replies, replies_next, replies_here, is_lent, is_sync, is_asked, asks}
@@ -191,9 +192,6 @@ answered replies now c h =
     both_true _ _
     (lent_still reply c.item.taken.loan (answer_to now c).buf ∙ p.0)
     (answer_heard reply (c.item.marked || c.item.cut) (job_of c.item.taken).op now (other_in c) (job_of c.item.taken).buf p.1)
-
-same_number : (m n : ℕ) → nat_eq m n ≡ true → m ≡ n
-same_number m n e = grind (arith, nat_tests)
 
 heard_same : (reply : Reply) (r : ℤ) → is_heard reply r ≡ true → heard reply r ≡ r
 heard_same Plain r e = refl

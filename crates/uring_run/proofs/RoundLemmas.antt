@@ -11,7 +11,7 @@ use Rattle.uring_entry.specs.Completions.{is_final}
 use Rattle.uring_model.specs.Moves.{Move, took, posted}
 use Rattle.uring_model.specs.Partner.{PartnerState}
 use Rattle.uring_model.specs.declared.jobs.RunFault.{RunFault}
-use Rattle.uring_ring.specs.declared.setup.Parameters.{Parameters}
+use Rattle.ring_setup.specs.declared.parameters.Parameters.{Parameters}
 use Rattle.uring_ring.specs.Lists.{Lists, Moves, HasRoom, WhereTold, Becomes, all_published, free_of}
 use Rattle.uring_partner.specs.Calls.{IsCall, IsWholeTurn}
 use Rattle.uring_submit.specs.declared.error.SubmitError.{SubmitError}

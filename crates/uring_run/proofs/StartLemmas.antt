@@ -24,6 +24,7 @@ use Rattle.uring_run.specs.Told.{Ending, reply_for, lends, outcome_from}
 use Rattle.uring_run.specs.Entries.{words_of, with_drain, with_link, entry_of, loan_of, offer_of, unlinked_if, offers_from}
 use Rattle.uring_run.specs.Slots.{slots_from, is_strange_at, is_stranger, land_in, land_one, land_all, stranger_among}
 use Rattle.uring_run.specs.Flights.{WasLent, AreReplied, jobs_of, flight_of, flight_in, all_polled, times_in, AreOperated, NoneResolved, IsAhead, AreAhead, IsSettled}
+use Rattle.uring_run.proofs.Posts.{passes}
 use Rattle.uring_run.proofs.FlightLemmas.{either_way, at_insert, none_polled, times-append, itself, set_else}
 
 -- the entry of a job, with its marks
@@ -148,10 +149,6 @@ ahead_if : (b : Bool) (n m : ℕ) (slots : List Slot) (e : Ending) (todo : List 
 ahead_if true n m slots e todo lt a = ahead_in (slice_get slots m) n m slots e todo lt a
 ahead_if false n m slots e todo lt a = a
 
-due_first : (b : Bool) (u : ℕ) (o : Option ℕ) → cond b (Some u) o ≡ None → (b ≡ false) × (o ≡ None)
-due_first true u o e = let bad : Some u ≡ None = e in cc
-due_first false u o e = (refl, e)
-
 started_first : (m n : ℕ) (b : Bool) → (not (nat_lt m n) || b) ≡ false → m < n
 started_first m n b e = by_test (nat_lt m n) b e (λ h. grind (arith, nat_tests, h))
   where
@@ -162,7 +159,7 @@ started_first m n b e = by_test (nat_lt m n) b e (λ h. grind (arith, nat_tests,
 pub ahead_landed : (n : ℕ) (slots : List Slot) (todo : List Offer) (cs : List Completion) → stranger_among n slots cs ≡ None → AreAhead n slots todo → AreAhead n (land_all slots cs) todo
 ahead_landed n slots todo [] e a = a
 ahead_landed n slots todo (c ∷ cs) e a =
-    let p = due_first (is_stranger n slots c) c.user_data (stranger_among n (land_one slots c) cs) e in
+    let p = passes (is_stranger n slots c) c.user_data (stranger_among n (land_one slots c) cs) e in
     let lt = started_first c.user_data n (is_strange_at (slice_get slots c.user_data) c) p.0 in
     ahead_landed n (land_one slots c) todo cs p.1 (ahead_if (is_final c.flags) n c.user_data slots (record { result = c.result; loan = c.loan }) todo lt a)
 

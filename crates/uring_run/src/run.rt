@@ -23,7 +23,7 @@ use std::alloc::{AllocError, Global};
 use uring_entry::Event;
 use uring_model::{Job, Report, RunFault};
 use uring_partner::Partner;
-use uring_ring::{IoUring, Parameters, PartnerSide, SetupError, UserEnds};
+use uring_ring::{Builder, IoUring, Parameters, PartnerSide, SetupError, UserEnds};
 
 /// The events that a partner's log has from `start` on.
 fn journal_since<P: Partner>(
@@ -109,7 +109,8 @@ fn ring_of(alloc: Global, sq: u32, cq: u32, start: u32) -> Result<IoUring, Setup
 fn is_valid(sq: u32, cq: u32) -> bool
     ensures { result ≡ is_valid_size sq cq }
 {
-    IoUring::builder().setup_cqsize(cq).parameters(sq).is_ok()
+    let mut builder: Builder = IoUring::builder();
+    builder.setup_cqsize(cq).parameters(sq).is_ok()
 }
 
 /// Runs the jobs over a ring of these sizes and the partner, and tells each outcome and the

@@ -1,8 +1,8 @@
 -- What a submit call enters with, or that it makes no enter.
 use Rattle.std.specs.Prelude.{ℕ, negsuc, Bool, not, ◌&&◌, ◌||◌, nat_lt, bit_or, if◌then◌else◌, Option, Some, None}
 use Rattle.uring_entry.specs.FlagBits.{has_bit}
-use Rattle.uring_ring.specs.declared.setup.Parameters.{Parameters}
-use Rattle.uring_ring.specs.Setup.{is_setup, is_feature}
+use Rattle.ring_setup.specs.declared.parameters.Parameters.{Parameters}
+use Rattle.ring_setup.specs.Setup.{is_setup, is_feature}
 use Rattle.uring_partner.specs.declared.call.EnterCall.{EnterCall}
 
 -- What the flags of a submission ring say: the partner's own thread sleeps, completions are held back, tasks wait.

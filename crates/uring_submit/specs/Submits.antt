@@ -5,7 +5,7 @@ use Rattle.uring_entry.specs.declared.events.Completion.{Completion}
 use Rattle.uring_entry.specs.declared.events.LogEvent.{LogEvent}
 use Rattle.uring_model.specs.Moves.{Move, took}
 use Rattle.uring_model.specs.Partner.{PartnerState}
-use Rattle.uring_ring.specs.declared.setup.Parameters.{Parameters}
+use Rattle.ring_setup.specs.declared.parameters.Parameters.{Parameters}
 use Rattle.uring_ring.specs.Lists.{Lists}
 use Rattle.uring_partner.specs.declared.call.EnterCall.{EnterCall}
 use Rattle.uring_partner.specs.Calls.{Enters, IsCall, IsWholeTurn}

@@ -1,5 +1,5 @@
-use Rattle.uring_ring.proofs.Grows.{spare_grows, waiting_grows}
+use Rattle.ring_core.proofs.Grows.{spare_grows, waiting_grows}
 use Rattle.uring_ring.proofs.io_uring.IoUringUserEnds.refresh.Goals as goal
 
 pub returns-clause-grows : goal.returns-clause-grows
-returns-clause-grows c = (spare_grows c.args.self.now.submissions.slots _ c.see_head.ensures, waiting_grows c.args.self.now.completions.slots _ c.see_tail.ensures)
+returns-clause-grows g c = (spare_grows c.args.self.now.submissions.slots _ c.see_head.ensures, waiting_grows c.args.self.now.completions.slots _ c.see_tail.ensures)

@@ -1,5 +1,5 @@
 use Rattle.std.proofs.Common.{◌≡◌, ◌∙◌, ℕ, [], Option, Some, Ok, Err, sym, subst, ap, true, false}
-use Rattle.uring_ring.specs.declared.setup.Parameters.{Parameters}
+use Rattle.ring_setup.specs.declared.parameters.Parameters.{Parameters}
 use Rattle.uring_partner.specs.declared.call.EnterCall.{EnterCall}
 use Rattle.uring_partner.specs.Calls.{IsCall, IsWholeTurn}
 use Rattle.uring_submit.specs.Decisions.{decision}

@@ -1,0 +1,125 @@
+//! What submission entries of both sizes have in common.
+
+ghost use Rattle.std.specs.Prelude.{◌≡◌, ℕ, List, refl, replicate};
+ghost use Rattle.std.proofs.Common.{ap};
+ghost use Rattle.uring_large.specs.Numbers.{entry_numbered, large_entry_numbered};
+ghost use Rattle.uring_entry.specs.declared.squeue.Entry.{Entry};
+
+use crate::squeue::{Entry, Entry128};
+
+/// A form of submission entry. It is made from a small entry, and holds one.
+pub trait EntryMarker: Clone + From<Entry> + Sized {
+    // The setup bit of a ring of these entries.
+    ghost BUILD_FLAGS: { ℕ };
+
+    // The small entry that a value holds.
+    ghost entry_of: { Self → Entry };
+
+    // The 64 bytes behind the small entry, zeros where it has none.
+    ghost big_of: { Self → List ℕ };
+
+    // A value with another number, all else as it was.
+    ghost numbered: { Self → ℕ → Self };
+
+    /// The bit that the setup of a ring of these entries needs: 0, or `IORING_SETUP_SQE128`.
+    const BUILD_FLAGS: u32;
+
+    /// Sets the number that comes back with the completion.
+    fn set_user_data(&mut self, user_data: u64)
+        ensures { self.new ≡ numbered self.old user_data };
+
+    /// The number that comes back with the completion.
+    fn get_user_data(&self) -> u64
+        ensures { result ≡ (entry_of self.now).user_data };
+
+    /// The small entry that the value holds.
+    fn base(&self) -> Entry
+        ensures { result ≡ entry_of self.now };
+
+    /// The 64 bytes behind the small entry, which are zeros where it has none.
+    fn big(&self) -> [u8; 64]
+        ensures { result ≡ big_of self.now };
+
+    // A value that is made from a small entry holds that entry.
+    ghost holds: { (entry : Entry) (value : Self) → Self.From.from_gives entry value → entry_of value ≡ entry };
+
+    // The number that was set is read, and the other words of the small entry stay, as do the bytes behind it.
+    ghost words_stay: { (value : Self) (number : ℕ) → entry_of (numbered value number) ≡ entry_numbered (entry_of value) number };
+
+    ghost big_stays: { (value : Self) (number : ℕ) → big_of (numbered value number) ≡ big_of value };
+
+    // Nothing but the number changes: setting it back restores the value.
+    ghost restores: { (value : Self) (number : ℕ) → numbered (numbered value number) (entry_of value).user_data ≡ value };
+}
+
+impl EntryMarker for Entry {
+    ghost BUILD_FLAGS = { 0 };
+
+    ghost entry_of = { λ entry. entry };
+
+    ghost big_of = { λ entry. replicate 64 0 };
+
+    ghost numbered = { entry_numbered };
+
+    ghost holds = { λ entry value gives. gives };
+
+    ghost words_stay = { λ value number. refl };
+
+    ghost big_stays = { λ value number. refl };
+
+    ghost restores = { λ value number. refl };
+
+    const BUILD_FLAGS: u32 = 0;
+
+    fn set_user_data(&mut self, user_data: u64) {
+        self.user_data = user_data;
+    }
+
+    fn get_user_data(&self) -> u64 {
+        self.user_data
+    }
+
+    fn base(&self) -> Entry {
+        *self
+    }
+
+    fn big(&self) -> [u8; 64] {
+        [0; 64]
+    }
+}
+
+impl EntryMarker for Entry128 {
+    ghost BUILD_FLAGS = { 1024 };
+
+    ghost entry_of = { λ large. large.entry };
+
+    ghost big_of = { λ large. large.big };
+
+    ghost numbered = { large_entry_numbered };
+
+    ghost holds = { λ entry value gives. ap (λ large. large.entry) gives };
+
+    ghost words_stay = { λ value number. refl };
+
+    ghost big_stays = { λ value number. refl };
+
+    ghost restores = { λ value number. refl };
+
+    const BUILD_FLAGS: u32 = 1024;
+
+    fn set_user_data(&mut self, user_data: u64) {
+        self.entry.user_data = user_data;
+    }
+
+    fn get_user_data(&self) -> u64 {
+        self.entry.user_data
+    }
+
+    fn base(&self) -> Entry {
+        self.entry
+    }
+
+    fn big(&self) -> [u8; 64] {
+        self.big
+    }
+}
