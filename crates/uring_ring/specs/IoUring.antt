@@ -2,7 +2,7 @@
 use Rattle.std.specs.Prelude.{◌≡◌, ℕ, ◌+◌, List, [], length, min}
 use Rattle.uring_entry.specs.declared.events.Taken.{Taken}
 use Rattle.uring_entry.specs.declared.events.Completion.{Completion}
-use Rattle.std.specs.Borrow.{Lends, MutBor, Fml, RattleType}
+use Rattle.std.specs.Borrow.{Lends, LendsBoth, MutBor, Fml, RattleType}
 use Rattle.uring_ring.specs.declared.io_uring.IoUring.{IoUring}
 use Rattle.ring_setup.specs.Setup.{told_entries, told_completions}
 use Rattle.ring_setup.specs.declared.parameters.Parameters.{Parameters}
@@ -103,3 +103,7 @@ module _ (S C : RattleType) (ring : MutBor (io_uring.the_row S C).Denot) where
 
   abbrev pub LendsCompletions : MutBor CompletionRing → Fml
   LendsCompletions lent = Lends (io_uring.the_row S C) completion_ring.the_row ring lent (λ left. record ring.now { completions = left })
+
+  -- the ring ends with both its rings as they are left
+  abbrev pub LendsRings : MutBor SubmissionRing × MutBor CompletionRing → Fml
+  LendsRings lent = LendsBoth (io_uring.the_row S C) submission_ring.the_row completion_ring.the_row ring lent (λ left right. record ring.now { submissions = left; completions = right })

@@ -4,6 +4,7 @@ ghost use Rattle.std.specs.Prelude.{◌≡◌, ◌≤◌, length};
 
 use crate::completion_queue::CompletionQueue;
 use crate::completion_ring::CompletionRing;
+use crate::pair::queues;
 use crate::sides::{PartnerSide, Rings, UserEnds};
 use crate::submission_queue::SubmissionQueue;
 use crate::submission_ring::SubmissionRing;
@@ -62,7 +63,7 @@ impl<S, C> IoUring<S, C> {
     ghost use Rattle.ring_core.specs.Positions.{is_ring_size};
     ghost use Rattle.ring_setup.specs.Setup.{told_entries, told_completions};
     ghost use Rattle.ring_core.specs.Slots.{with_head_seen, with_tail_seen};
-    ghost use Rattle.uring_ring.specs.IoUring.{IsOpened, TellsSizes, lists_of, parameters_of, entries_in, completions_in, submission_words_in, completion_words_in, LendsSubmissions, LendsCompletions};
+    ghost use Rattle.uring_ring.specs.IoUring.{IsOpened, TellsSizes, lists_of, parameters_of, entries_in, completions_in, submission_words_in, completion_words_in, LendsSubmissions, LendsCompletions, LendsRings};
     ghost use Rattle.uring_ring.specs.Queues.{entries_at, completions_at, submission_words_at, completion_words_at};
 
     pub(crate) fn open(
@@ -121,27 +122,24 @@ impl<S, C> IoUring<S, C> {
         }
     }
 
+    /// Both rings at once.
+    pub(crate) fn both(&mut self) -> (&mut SubmissionRing, &mut CompletionRing)
+        ensures* lent { sem 𝓛 (LendsRings S.row C.row self.entry result) }
+        ensures values { (result.0.now ≡ self.old.submissions) × (result.1.now ≡ self.old.completions) }
+    {
+        (&mut self.submissions, &mut self.completions)
+    }
+
     /// The user's ends of both rings at once. Each sees what the partner has done.
     pub fn split(&mut self) -> (SubmissionQueue<'_, S>, CompletionQueue<'_, C>)
+        ensures* lent { sem 𝓛 (LendsRings S.row C.row self.entry (result.0.ring, result.1.ring)) }
         ensures entries { entries_at result.0 ≡ with_head_seen (entries_in self.old) }
         ensures completions { completions_at result.1 ≡ with_tail_seen (completions_in self.old) }
         ensures submission_words { submission_words_at result.0 ≡ submission_words_in self.old }
         ensures completion_words { completion_words_at result.1 ≡ completion_words_in self.old }
     {
-        let submissions = &mut self.submissions;
-        let completions = &mut self.completions;
-        submissions.slots.see_head();
-        completions.slots.see_tail();
-        (
-            SubmissionQueue {
-                ring: submissions,
-                size: PhantomData,
-            },
-            CompletionQueue {
-                ring: completions,
-                size: PhantomData,
-            },
-        )
+        let (submissions, completions) = self.both();
+        queues(submissions, completions)
     }
 }
 

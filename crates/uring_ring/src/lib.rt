@@ -6,6 +6,7 @@ mod completion_queue;
 mod completion_ring;
 mod io_uring;
 pub mod laws;
+mod pair;
 mod plain_side;
 mod sides;
 mod submission_queue;
