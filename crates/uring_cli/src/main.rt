@@ -1,6 +1,10 @@
 //! The program: from its words and the bytes of a script to a status and the bytes of a report.
 #![tactic(auto)]
 
+ghost use Rattle.std.specs.Prelude.{◌≡◌, ◌≢◌, ◌⊎◌, None};
+ghost use Rattle.uring_text.specs.declared.status.Status.TheVariants.{NoMemory, PartnerFault, Usage};
+ghost use Rattle.uring_cli.specs.Words.{options_of};
+
 mod input;
 mod main_call;
 mod perform;
@@ -30,7 +34,11 @@ fn words_after_name(rt: &HostRuntime) -> io::Result<Vec<Word>> {
 }
 
 /// Runs the command over standard input and output, and a new partner.
-fn run(rt: &HostRuntime, words: &[Word]) -> Status {
+fn run(rt: &HostRuntime, words: &[Word]) -> Status
+    ensures usage { result ≡ Usage → options_of words.now ≡ None }
+    ensures others { options_of words.now ≡ None → (result ≡ Usage) ⊎ (result ≡ NoMemory) }
+    ensures unplanned { result ≢ PartnerFault }
+{
     let alloc = rt.alloc();
     let Ok(reader) = BufReader::new(alloc, rt.stdin()) else {
         return Status::NoMemory;
