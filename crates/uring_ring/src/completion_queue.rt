@@ -7,6 +7,7 @@ ghost use Rattle.ring_core.specs.Slots.{held_of, with_head, with_tail_seen, take
 ghost use Rattle.uring_ring.specs.Queues.{completions_at, completion_words_at, completions_of_status, received_as, first_received, QueueSteps, with_flag, without_flag};
 
 use crate::completion_ring::CompletionRing;
+use ring_core::{End, sync};
 use std::marker::PhantomData;
 use uring_entry::{Completion, Loan};
 use uring_large::cqueue::{Entry, EntryMarker};
@@ -47,7 +48,7 @@ impl<C> Drop for CompletionQueue<'_, C> {
         ensures words { self.exit.0.now.words ≡ completion_words_at self.entry }
     {
         let CompletionQueue { ring, size: _size } = self;
-        ring.slots.publish_head();
+        ring.publish();
     }
 }
 
@@ -83,9 +84,7 @@ impl<C> CompletionQueue<'_, C> {
         ensures words { completion_words_at self.new ≡ completion_words_at self.old }
         ensures same_reference { self.new.ring.ghost_name ≡ self.old.ring.ghost_name }
     {
-        let ring = &mut *self.ring;
-        ring.slots.publish_head();
-        ring.slots.see_tail();
+        sync(&mut *self.ring);
     }
 
     /// How many completions wait, as last seen.

@@ -4,7 +4,7 @@ ghost use Rattle.std.specs.Prelude.{◌≡◌, length};
 ghost use Rattle.ring_core.specs.Slots.{held_of};
 ghost use Rattle.uring_ring.specs.Sizes.{kept_as};
 
-use ring_core::Slots;
+use ring_core::{End, Slots};
 use std::alloc::{AllocError, Global};
 use uring_entry::Completion;
 use uring_large::cqueue::EntryMarker;
@@ -88,5 +88,22 @@ impl CompletionRing {
         self.slots.put(kept_as::<C>(completion));
         self.slots.publish_tail();
         Ok(())
+    }
+}
+
+/// The user's end: it gives the slots of what was taken back, and sees what the partner has posted.
+impl End for CompletionRing {
+    ghost use Rattle.ring_core.specs.Slots.{with_head, with_tail_seen};
+
+    ghost publishes = { λ before after. (held_of after.slots ≡ with_head (held_of before.slots)) × (after.words ≡ before.words) };
+
+    ghost looks = { λ before after. (held_of after.slots ≡ with_tail_seen (held_of before.slots)) × (after.words ≡ before.words) };
+
+    fn publish(&mut self) {
+        self.slots.publish_head();
+    }
+
+    fn look(&mut self) {
+        self.slots.see_tail();
     }
 }

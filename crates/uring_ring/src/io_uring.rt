@@ -8,7 +8,7 @@ use crate::pair::queues;
 use crate::sides::{PartnerSide, Rings, UserEnds};
 use crate::submission_queue::SubmissionQueue;
 use crate::submission_ring::SubmissionRing;
-use ring_core::SetupError;
+use ring_core::{End, SetupError};
 use ring_setup::Parameters;
 use std::alloc::{AllocError, Global};
 use std::marker::PhantomData;
@@ -100,10 +100,10 @@ impl<S, C> IoUring<S, C> {
         ensures entries { entries_at result ≡ with_head_seen (entries_in self.old) }
         ensures words { submission_words_at result ≡ submission_words_in self.old }
     {
-        let ring = &mut self.submissions;
-        ring.slots.see_head();
+        let submissions = &mut self.submissions;
+        submissions.look();
         SubmissionQueue {
-            ring,
+            ring: submissions,
             size: PhantomData,
         }
     }
@@ -114,10 +114,10 @@ impl<S, C> IoUring<S, C> {
         ensures completions { completions_at result ≡ with_tail_seen (completions_in self.old) }
         ensures words { completion_words_at result ≡ completion_words_in self.old }
     {
-        let ring = &mut self.completions;
-        ring.slots.see_tail();
+        let completions = &mut self.completions;
+        completions.look();
         CompletionQueue {
-            ring,
+            ring: completions,
             size: PhantomData,
         }
     }
@@ -290,13 +290,13 @@ impl<S, C: cqueue::EntryMarker> UserEnds for IoUring<S, C> {
     }
 
     fn publish(&mut self) {
-        self.submissions.slots.publish_tail();
-        self.completions.slots.publish_head();
+        self.submissions.publish();
+        self.completions.publish();
     }
 
     fn refresh(&mut self) {
-        self.submissions.slots.see_head();
-        self.completions.slots.see_tail();
+        self.submissions.look();
+        self.completions.look();
     }
 
     fn reap(&mut self) -> Option<Completion> {

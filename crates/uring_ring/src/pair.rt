@@ -8,6 +8,7 @@ use crate::completion_queue::CompletionQueue;
 use crate::completion_ring::CompletionRing;
 use crate::submission_queue::SubmissionQueue;
 use crate::submission_ring::SubmissionRing;
+use ring_core::End;
 use std::marker::PhantomData;
 
 /// The user's ends of two rings. Each sees what the partner has done.
@@ -22,8 +23,8 @@ pub(crate) fn queues<'a, S, C>(
     ensures submission_words { submission_words_at result.0 ≡ submissions.old.words }
     ensures completion_words { completion_words_at result.1 ≡ completions.old.words }
 {
-    submissions.slots.see_head();
-    completions.slots.see_tail();
+    submissions.look();
+    completions.look();
     (
         SubmissionQueue {
             ring: submissions,

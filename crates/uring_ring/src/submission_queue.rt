@@ -7,6 +7,7 @@ ghost use Rattle.uring_ring.specs.Queues.{entries_at, submission_words_at, refus
 ghost use Rattle.uring_ring.specs.Sizes.{taken_as, unlent};
 
 use crate::submission_ring::SubmissionRing;
+use ring_core::{End, sync};
 use std::fmt;
 use std::marker::PhantomData;
 use uring_entry::{Loan, Taken};
@@ -43,7 +44,7 @@ impl<S> Drop for SubmissionQueue<'_, S> {
         ensures words { self.exit.0.now.words ≡ submission_words_at self.entry }
     {
         let SubmissionQueue { ring, size: _size } = self;
-        ring.slots.publish_tail();
+        ring.publish();
     }
 }
 
@@ -107,9 +108,7 @@ impl<S> SubmissionQueue<'_, S> {
         ensures words { submission_words_at self.new ≡ submission_words_at self.old }
         ensures same_reference { self.new.ring.ghost_name ≡ self.old.ring.ghost_name }
     {
-        let ring = &mut *self.ring;
-        ring.slots.publish_tail();
-        ring.slots.see_head();
+        sync(&mut *self.ring);
     }
 
     /// How many entries the partner hasn't taken, as last seen.

@@ -3,7 +3,7 @@
 ghost use Rattle.std.specs.Prelude.{◌≡◌, ◌≤◌};
 ghost use Rattle.ring_core.specs.Slots.{held_of};
 
-use ring_core::Slots;
+use ring_core::{End, Slots};
 use std::alloc::{AllocError, Global};
 use uring_entry::Taken;
 
@@ -67,5 +67,22 @@ impl SubmissionRing {
         let taken = self.slots.take()?;
         self.slots.publish_head();
         Some(taken)
+    }
+}
+
+/// The user's end: it shows what was pushed, and sees what the partner has taken.
+impl End for SubmissionRing {
+    ghost use Rattle.ring_core.specs.Slots.{with_tail, with_head_seen};
+
+    ghost publishes = { λ before after. (held_of after.slots ≡ with_tail (held_of before.slots)) × (after.words ≡ before.words) };
+
+    ghost looks = { λ before after. (held_of after.slots ≡ with_head_seen (held_of before.slots)) × (after.words ≡ before.words) };
+
+    fn publish(&mut self) {
+        self.slots.publish_tail();
+    }
+
+    fn look(&mut self) {
+        self.slots.see_head();
     }
 }
