@@ -14,6 +14,7 @@ use Rattle.rent_engine.specs.declared.one_op.OneAnswer.{OneAnswer}
 use Rattle.rent_engine.specs.declared.one_op.OneAnswer.TheVariants.{Done, InUse, NoMemory, Lost}
 use Rattle.rent_engine.specs.Ops.{Ops, knows, started, polled, taken_out}
 use Rattle.rent_engine.specs.Engines.{asked}
+use Rattle.rent_engine.specs.States.{poll_map}
 
 abbrev pub stage_key : Stage → Option ℕ
 stage_key (Offers offer) = None
@@ -109,3 +110,7 @@ OneStep (Offers offer) ops ts answer after stage =
     × (Begins offer n ops ts answer after stage ⊎ (IsHeld offer n ops ts answer after stage ⊎ (IsRefused offer n ops ts answer after stage ⊎ IsLacking offer n ops ts answer after stage)))
 OneStep (Waits key) ops ts answer after stage = IsAskedFor key ops ts answer after stage
 OneStep Over ops ts answer after stage = ⊥
+
+-- a poll is one of the state's operation, and gives the output of that one's answer
+abbrev pub PollsAs : {T : Type 0} → (OneAnswer → T) → Stage → Ops → List Taken → Poll T → Ops → Stage → Type 0
+PollsAs output stage ops ts answer after next = (one : Poll OneAnswer) × (answer ≡ poll_map output one) × OneStep stage ops ts one after next

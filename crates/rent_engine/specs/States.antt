@@ -20,3 +20,7 @@ KeepsInFlight before after = (n : ℕ) → is_some (flight_at before n) ≡ true
 abbrev pub poll_map : {A B : Type 0} → (A → B) → Poll A → Poll B
 poll_map f (Ready a) = Ready (f a)
 poll_map f Pending = Pending
+
+abbrev pub IfReady : {T : Type 0} → Poll T → (T → Type 0) → Type 0
+IfReady (Ready answer) P = P answer
+IfReady Pending P = Unit {0}

@@ -6,6 +6,7 @@ pub mod laws;
 mod one_op;
 mod operations;
 mod ops;
+mod single;
 mod state;
 mod table;
 mod turn;
@@ -13,6 +14,7 @@ mod turn;
 pub use engine::Engine;
 pub use one_op::{Offer, OneAnswer, OneOp, Stage};
 pub use ops::{EngineFault, OpDone, OpKey, OpPoll, StartFault, Step, TurnReport};
+pub use single::{Kind, Single};
 pub use state::{OpState, Poll};
 
 #[cfg(test)]

@@ -1,14 +1,7 @@
 -- What the states of files give.
-use Rattle.std.specs.Prelude.{◌≡◌, ℕ, ◌+◌, ◌≤◌, ℤ, pos, negsuc, List, [], Option, Some, None, Result, Ok, Err}
-use Rattle.uring_entry.specs.declared.events.Taken.{Taken}
-use Rattle.rent_engine.specs.declared.state.Poll.{Poll}
-use Rattle.rent_engine.specs.declared.state.Poll.TheVariants.{Ready, Pending}
-use Rattle.rent_engine.specs.declared.one_op.Stage.{Stage}
+use Rattle.std.specs.Prelude.{ℕ, ◌+◌, ◌≤◌, ℤ, pos, negsuc, List, [], Option, Some, None, Result, Ok, Err}
 use Rattle.rent_engine.specs.declared.one_op.OneAnswer.{OneAnswer}
 use Rattle.rent_engine.specs.declared.one_op.OneAnswer.TheVariants.{Done, InUse, NoMemory, Lost}
-use Rattle.rent_engine.specs.Ops.{Ops}
-use Rattle.rent_engine.specs.OneOp.{OneStep}
-use Rattle.rent_engine.specs.States.{poll_map}
 use Rattle.rent_fs.specs.declared.error.FsError.{FsError}
 use Rattle.rent_fs.specs.declared.error.FsError.TheVariants as errors
 
@@ -34,6 +27,9 @@ counted (negsuc n) = Err (errors.Os (n + 1))
 abbrev pub IsSmall : Result ℕ FsError → Type 0
 IsSmall (Ok n) = n ≤ 2147483647
 IsSmall (Err e) = errno_of e ≤ 2147483648
+
+abbrev pub HasSmallCount : Result ℕ FsError × List ℕ → Type 0
+HasSmallCount output = IsSmall output.0
 
 abbrev pub or_empty : Option (List ℕ) → List ℕ
 or_empty None = []
@@ -67,17 +63,3 @@ synced Lost = Err errors.KeyLost
 abbrev pub IsSmallFault : Result (Unit {0}) FsError → Type 0
 IsSmallFault (Ok _) = Unit {0}
 IsSmallFault (Err e) = errno_of e ≤ 2147483648
-
--- a poll is one of the state's operation, and gives the output of that one's answer
-abbrev pub PollsAs : {T : Type 0} → (OneAnswer → T) → Stage → Ops → List Taken → Poll T → Ops → Stage → Type 0
-PollsAs output stage ops ts answer after next = (one : Poll OneAnswer) × (answer ≡ poll_map output one) × OneStep stage ops ts one after next
-
-abbrev pub MovesPolls : Stage → Ops → List Taken → Poll (Result ℕ FsError × List ℕ) → Ops → Stage → Type 0
-MovesPolls = PollsAs moved
-
-abbrev pub SyncPolls : Stage → Ops → List Taken → Poll (Result (Unit {0}) FsError) → Ops → Stage → Type 0
-SyncPolls = PollsAs synced
-
-abbrev pub IfReady : {T : Type 0} → Poll T → (T → Type 0) → Type 0
-IfReady (Ready answer) P = P answer
-IfReady Pending P = Unit {0}

@@ -5,9 +5,9 @@ ghost use Rattle.rent_engine.specs.declared.one_op.Stage.TheVariants.{Offers};
 ghost use Rattle.rent_engine.specs.OneOp.{addressed};
 ghost use Rattle.rent_fs.specs.Entries.{no_flags, read_entry, sync_entry, write_entry};
 
-use crate::read_at::ReadAt;
-use crate::syncs::Sync;
-use crate::write_at::WriteAt;
+use crate::read_at::{ReadAt, read_at};
+use crate::syncs::{Sync, sync_all, sync_data};
+use crate::write_at::{WriteAt, write_at};
 use uring_entry::Buf;
 use uring_entry::types::FsyncFlags;
 
@@ -42,7 +42,7 @@ impl File {
         ensures offers { result ≡ Offers (record { number = None; entry = read_entry (number_of self.now) 0 (length buf) pos; buf = Some buf }) }
         ensures entry { (n : ℕ) → addressed n (Some buf) (read_entry (number_of self.now) 0 (length buf) pos) ≡ read_entry (number_of self.now) n (length buf) pos }
     {
-        ReadAt::new(self.number, buf, pos)
+        read_at(self.number, buf, pos)
     }
 
     /// Writes a buffer at a position, as many bytes as are taken. Nothing is asked for until the
@@ -53,7 +53,7 @@ impl File {
         ensures offers { result ≡ Offers (record { number = None; entry = write_entry (number_of self.now) 0 (length buf) pos; buf = Some buf }) }
         ensures entry { (n : ℕ) → addressed n (Some buf) (write_entry (number_of self.now) 0 (length buf) pos) ≡ write_entry (number_of self.now) n (length buf) pos }
     {
-        WriteAt::new(self.number, buf, pos)
+        write_at(self.number, buf, pos)
     }
 
     /// Brings all that belongs to the file to its device, as `fsync` does. Nothing is asked for
@@ -61,7 +61,7 @@ impl File {
     pub fn sync_all(&self) -> Sync
         ensures { result ≡ Offers (record { number = None; entry = sync_entry (number_of self.now) no_flags; buf = None }) }
     {
-        Sync::of_all(self.number)
+        sync_all(self.number)
     }
 
     /// Brings the file's bytes to its device, and of what describes it only what is needed to read
@@ -69,6 +69,6 @@ impl File {
     pub fn sync_data(&self) -> Sync
         ensures { result ≡ Offers (record { number = None; entry = sync_entry (number_of self.now) FsyncFlags.DATASYNC; buf = None }) }
     {
-        Sync::of_data(self.number)
+        sync_data(self.number)
     }
 }

@@ -11,9 +11,9 @@ mod write_at;
 
 pub use error::FsError;
 pub use file::File;
-pub use read_at::ReadAt;
-pub use syncs::Sync;
-pub use write_at::WriteAt;
+pub use read_at::{ReadAt, Reading};
+pub use syncs::{Sync, Syncing};
+pub use write_at::{WriteAt, Writing};
 
 #[cfg(test)]
 mod tests;

@@ -123,7 +123,7 @@ impl<S, C> IoUring<S, C> {
     }
 
     /// Both rings at once.
-    pub(crate) fn both(&mut self) -> (&mut SubmissionRing, &mut CompletionRing)
+    fn both(&mut self) -> (&mut SubmissionRing, &mut CompletionRing)
         ensures* lent { sem 𝓛 (LendsRings S.row C.row self.entry result) }
         ensures values { (result.0.now ≡ self.old.submissions) × (result.1.now ≡ self.old.completions) }
     {
