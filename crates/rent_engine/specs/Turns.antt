@@ -3,7 +3,7 @@ use Rattle.std.specs.Prelude.{◌≡◌, ℕ, List, [], length, Option, IfSome, 
 use Rattle.uring_entry.specs.declared.events.Taken.{Taken}
 use Rattle.uring_entry.specs.declared.events.Completion.{Completion}
 use Rattle.uring_entry.specs.declared.events.LogEvent.{LogEvent}
-use Rattle.uring_model.specs.Partner.{PartnerState}
+use Rattle.uring_model.specs.Schedule.{Machine, State}
 use Rattle.ring_setup.specs.declared.parameters.Parameters.{Parameters}
 use Rattle.uring_ring.specs.Lists.{Lists, Becomes, all_published}
 use Rattle.uring_submit.specs.declared.error.SubmitError.{SubmitError}
@@ -23,7 +23,7 @@ fault_of submit.NotRegistered = NoMemory
 fault_of (submit.Fault errno) = Fault errno
 fault_of submit.NoMemory = NoMemory
 
-module _ {P R : Type 0} (log : P → Option (List LogEvent)) (state : P → Option PartnerState) (lists : R → Option Lists) (moved : R → List Taken → List Completion → R → Type 0) (flags_word : R → ℕ) (used : R → List Taken → List Completion → R → Type 0) where
+module _ {W : Type 0} (m : Machine W) {P R : Type 0} (log : P → Option (List LogEvent)) (state : P → Option (State W)) (lists : R → Option Lists) (moved : R → List Taken → List Completion → R → Type 0) (flags_word : R → ℕ) (used : R → List Taken → List Completion → R → Type 0) where
   -- what was offered is published, and the partner enters once, over all that is published, and waits for one completion
   pub record Submitted (params : Parameters) (old new : P) (before after : R) (result : Result ℕ SubmitError) : Type 0 where
     pub shown : R
@@ -31,7 +31,7 @@ module _ {P R : Type 0} (log : P → Option (List LogEvent)) (state : P → Opti
     pub told : Becomes (lists before) all_published (lists shown)
     pub published : ℕ
     pub counted : IfSome (lists shown) (λ l. published ≡ length l.published)
-    pub enters : EntersOnce log state lists moved (wanted_call published (flags_word shown) params 1) old new shown after result
+    pub enters : EntersOnce m log state lists moved (wanted_call published (flags_word shown) params 1) old new shown after result
 
   module _ (room waiting : R → ℕ) where
     -- after an enter that succeeds all is pumped, and the report says how many were taken; after another nothing more is done

@@ -16,6 +16,3 @@ pub use one_op::{Offer, OneAnswer, OneOp, Stage};
 pub use ops::{EngineFault, OpDone, OpKey, OpPoll, StartFault, Step, TurnReport};
 pub use single::{Kind, Single};
 pub use state::{OpState, Poll};
-
-#[cfg(test)]
-mod tests;

@@ -2,7 +2,7 @@
 
 ghost use Rattle.std.specs.Prelude.{◌≡◌, ◌≤◌, ◌^◌, ◌<◌, true, IfErr, IfOk, IfSome, IsTrue, OnOk, Contains};
 ghost use Rattle.uring_entry.specs.Causes.{HasCause};
-ghost use Rattle.uring_partner.specs.Calls.{later_plan};
+ghost use Rattle.partner_calls.specs.Calls.{later_plan};
 ghost use Rattle.uring_submit.specs.Errors.{is_fault as is_submit_fault, is_of_partner};
 ghost use Rattle.rent_engine.specs.Engines.{is_fault};
 ghost use Rattle.rent_engine.specs.Turns.{Turned, Submitted, fault_of};
@@ -10,7 +10,7 @@ ghost use Rattle.rent_engine.specs.Turns.{Turned, Submitted, fault_of};
 use crate::engine::Engine;
 use crate::ops::{EngineFault, TurnReport};
 use std::alloc::Global;
-use uring_partner::Partner;
+use partner_calls::Partner;
 use uring_ring::{PartnerSide, UserEnds};
 use uring_submit::SubmitError;
 
@@ -22,7 +22,7 @@ impl<R: UserEnds + PartnerSide> Engine<R> {
         alloc: Global,
         partner: &mut P,
     ) -> Result<TurnReport, EngineFault>
-        ensures turned { Turned P.log P.state R.lists R.moved R.flags_word R.used R.room R.waiting self.old.params partner.old partner.new self.old.ring self.new.ring self.old.ops self.new.ops result }
+        ensures turned { Turned P.machine P.log P.state R.lists R.moved R.flags_word R.used R.room R.waiting self.old.params partner.old partner.new self.old.ring self.new.ring self.old.ops self.new.ops result }
         ensures none_left { OnOk result (R.waiting self.new.ring ≡ 0) }
         ensures cause { HasCause is_fault (P.faults partner.old) (P.faults partner.new) result }
         ensures planned { IfSome (P.state partner.old) (λ _. IfErr result (λ fault. IsTrue (is_fault fault) → Contains (P.plan partner.old) 1)) }
@@ -46,7 +46,7 @@ impl<R: UserEnds + PartnerSide> Engine<R> {
 
     /// Shows the partner what was offered, and has it enter once.
     fn submit<P: Partner>(&mut self, alloc: Global, partner: &mut P) -> Result<usize, SubmitError>
-        ensures submitted { Submitted P.log P.state R.lists R.moved R.flags_word R.used self.old.params partner.old partner.new self.old.ring self.new.ring result }
+        ensures submitted { Submitted P.machine P.log P.state R.lists R.moved R.flags_word R.used self.old.params partner.old partner.new self.old.ring self.new.ring result }
         ensures cause { HasCause is_submit_fault (P.faults partner.old) (P.faults partner.new) result }
         ensures planned { IfSome (P.state partner.old) (λ _. IfErr result (λ e. IsTrue (is_submit_fault e) → Contains (P.plan partner.old) 1)) }
         ensures counted { IfSome (P.state partner.old) (λ _. ¬ Contains (P.plan partner.old) 1 → P.faults partner.new ≡ P.faults partner.old) }

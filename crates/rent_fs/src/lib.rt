@@ -14,6 +14,3 @@ pub use file::File;
 pub use read_at::{ReadAt, Reading};
 pub use syncs::{Sync, Syncing};
 pub use write_at::{WriteAt, Writing};
-
-#[cfg(test)]
-mod tests;

@@ -3,19 +3,12 @@
 
 ghost use Rattle.std.specs.Prelude.{◌≡◌, ◌≢◌, ◌⊎◌, None};
 ghost use Rattle.uring_text.specs.declared.status.Status.TheVariants.{NoMemory, PartnerFault, Usage};
-ghost use Rattle.uring_cli.specs.Words.{options_of};
-
-mod input;
-mod main_call;
-mod perform;
-mod words;
-
-pub use main_call::ring_main;
-pub use words::Word;
+ghost use Rattle.ring_command.specs.Words.{options_of};
 
 #[cfg(test)]
 mod tests;
 
+use ring_command::{Word, ring_main};
 use std::env;
 use std::io::{self, BufReader, Write};
 use std::process::ExitCode;

@@ -1,6 +1,6 @@
 mod table;
 
-use crate::{Status, Word, ring_main, status_text};
+use ring_command::{Word, ring_main};
 use std::alloc::{AllocError, Global};
 use std::process::Abort;
 use std::test::Fail;
@@ -9,7 +9,7 @@ use uring_model::{Files, Outcome, have_counts, replay};
 use uring_partner::{HostilePartner, LoanPlan, MemoryPartner, Partner, Scripted, Seedable};
 use uring_run::run_jobs;
 use uring_streams::{MemorySink, MemorySource};
-use uring_text::read_script;
+use uring_text::{Status, read_script, status_text};
 
 const HELLO: &str = "file 3 68656c6c6f\nread 3 0 5\n";
 

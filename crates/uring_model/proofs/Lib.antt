@@ -18,3 +18,6 @@ pub mod Places
 pub mod WorkedRows
 pub mod EntryRows
 pub mod StrangeRows
+pub mod Seen
+pub mod WorldSeen
+pub mod WorldJoins

@@ -4,23 +4,20 @@ use Rattle.uring_entry.specs.declared.events.Taken.{Taken}
 use Rattle.uring_entry.specs.declared.events.Completion.{Completion}
 use Rattle.uring_entry.specs.declared.events.LogEvent.{LogEvent}
 use Rattle.uring_model.specs.Moves.{Move, Took, Posted, took, posted, IsLogged}
-use Rattle.uring_model.specs.Partner.{PartnerState, IsServed}
 use Rattle.uring_model.specs.Progress.{turns}
 use Rattle.uring_model.specs.Honest.{TakesWithinTurns}
 
--- The moves of two lists in a row take, post and turn what both do; log and state go on from the one to the other.
+-- The moves of two lists in a row take, post and turn what both do; the log goes on from the one to the other.
 pub record MovesJoin : Type 0 where
   pub takes : (ms ns : List Move) → took (ms ++ ns) ≡ took ms ++ took ns
   pub posts : (ms ns : List Move) → posted (ms ++ ns) ≡ posted ms ++ posted ns
   pub turning : (ms ns : List Move) → turns (ms ++ ns) ≡ turns ms + turns ns
   pub within : (left : ℕ) (ms ns : List Move) → TakesWithinTurns left ms → TakesWithinTurns 0 ns → TakesWithinTurns left (ms ++ ns)
   pub logs : (a b c : Option (List LogEvent)) (ms ns : List Move) → IsLogged a ms b → IsLogged b ns c → IsLogged a (ms ++ ns) c
-  pub states : (a b c : Option PartnerState) (ms ns : List Move) → IsServed a ms b → IsServed b ns c → IsServed a (ms ++ ns) c
 
--- Where nothing was done, log and state are as they were.
+-- Where nothing was done, the log is as it was.
 pub record NoMoveStays : Type 0 where
   pub logs : (log : Option (List LogEvent)) → IsLogged log [] log
-  pub states : (state : Option PartnerState) → IsServed state [] state
 
 -- a turn's moves post what it says that they do
 abbrev pub TurnsPostTheirs : Type 0

@@ -3,6 +3,8 @@ pub mod Jobs
 pub mod Replay
 pub mod Chosen
 pub mod Moves
+pub mod Asks
+pub mod Schedule
 pub mod Partner
 pub mod Turn
 pub mod Strange
@@ -12,6 +14,9 @@ pub mod Progress
 pub mod Ends
 pub mod Honest
 pub mod Joins
+pub mod World
+pub mod Served
 pub mod Words
 pub mod Rows
 pub use Rattle.uring_entry.specs.Sizes as Sizes
+pub mod Viewed

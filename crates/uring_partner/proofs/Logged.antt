@@ -8,7 +8,8 @@ use Rattle.uring_entry.specs.declared.events.LogEvent.{LogEvent}
 use Rattle.uring_model.specs.Moves.{Move, Turned, Took, Posted, took, posted, log_of}
 use Rattle.uring_model.proofs.Joins.{took-append, posted-append, log-append}
 use Rattle.uring_partner.specs.declared.hostile.HostilePartner.{HostilePartner}
-use Rattle.uring_partner.specs.Calls.{Enters}
+use Rattle.uring_model.specs.Partner.{file_machine}
+use Rattle.partner_calls.specs.Calls.{Enters}
 use Rattle.uring_partner.specs.Logs.{LogsBy, hostile_log, no_state}
 use Rattle.uring_partner.proofs.Turns.{Joins}
 
@@ -37,7 +38,7 @@ logs_posted moved joins a b c s t u cs x p q = rw map-append (logs_then moved jo
 -- a call that began, took and posted
 pub logged_call : {Q : Type 0} (moved : Q → List Taken → List Completion → Q → Type 0) → Joins moved → (a b c d : HostilePartner) (s t u v : Q) (p : ℕ) (ts : List Taken) (cs : List Completion)
     → LogsBy moved a.log.items b.log.items s t (Turned p ∷ []) → LogsBy moved b.log.items c.log.items t u (map Took ts) → LogsBy moved c.log.items d.log.items u v (map Posted cs)
-    → Enters hostile_log no_state moved a d s v (Turned p ∷ (map Took ts ++ map Posted cs))
+    → Enters file_machine hostile_log no_state moved a d s v (Turned p ∷ (map Took ts ++ map Posted cs))
 logged_call moved joins a b c d s t u v p ts cs g h k =
     let all = logs_then moved joins a.log.items b.log.items d.log.items s t v (Turned p ∷ []) (map Took ts ++ map Posted cs) g (logs_then moved joins b.log.items c.log.items d.log.items t u v (map Took ts) (map Posted cs) h k) in
     record { sides = all.sides; logs = ap Some all.grown; states = refl }

@@ -8,13 +8,13 @@ use Rattle.uring_entry.specs.declared.events.Completion.{Completion}
 use Rattle.uring_model.specs.declared.pending.Pending.{Pending}
 use Rattle.uring_model.specs.Chosen.{choice, stops}
 use Rattle.uring_model.specs.Moves.{Move, Turned, Took, Posted, took, posted, logged, log_of}
-use Rattle.uring_model.specs.Partner.{PartnerState, cursors, named, ready_cursors, Settles, Steps}
+use Rattle.uring_model.specs.Partner.{PartnerState, file_machine, cursors, named, ready_cursors, Settles, Steps}
 use Rattle.uring_model.specs.Turn.{Outturn, posting, stays, settled_by, settle_then, settle_turn, take_all, turn}
 use Rattle.uring_model.proofs.Joins.{took-append, posted-append, took_turn, posted_turn, log-append}
 use Rattle.uring_model.proofs.Whole.{whole_turn}
 use Rattle.uring_ring.specs.Lists.{Lists, Moves, WhereTold, HasRoom, room_of}
 use Rattle.uring_partner.specs.declared.memory.MemoryPartner.{MemoryPartner}
-use Rattle.uring_partner.specs.Calls.{Enters, IsTurn, IsWholeTurn}
+use Rattle.partner_calls.specs.Calls.{Enters, IsTurn, IsWholeTurn}
 use Rattle.uring_model.specs.Progress.{turns}
 use Rattle.uring_partner.specs.Parts.{GoesBy}
 use Rattle.uring_partner.specs.Told.{state_of, told_state, told_log}
@@ -218,7 +218,7 @@ is_turn asked p lists ts cs fits told few = record {
 pub entered : {Q : Type 0} (moved : Q → List Taken → List Completion → Q → Type 0) → Joins moved → (a b c d : MemoryPartner) (s t u v : Q) (p n : ℕ) (ts : List Taken)
     → GoesBy moved a b s t (Turned p ∷ []) → state_of b ≡ state_of a → GoesBy moved b c t u (map Took ts) → state_of c ≡ take_all (state_of b) ts
     → GoesBy moved c d u v (map Posted (settle_turn n (state_of c)).posts) → state_of d ≡ (settle_turn n (state_of c)).state
-    → Enters told_log told_state moved a d s v (Turned p ∷ (map Took ts ++ map Posted (turn ts n (state_of a)).posts))
+    → Enters file_machine told_log told_state moved a d s v (Turned p ∷ (map Took ts ++ map Posted (turn ts n (state_of a)).posts))
 entered moved joins a b c d s t u v p n ts g e h f k i =
     let mid : state_of c ≡ take_all (state_of a) ts = f ∙ ap (λ x. take_all x ts) e in
     let last : GoesBy moved c d u v (map Posted (turn ts n (state_of a)).posts) = subst (λ x. GoesBy moved c d u v (map Posted (settle_turn n x).posts)) mid k in
@@ -229,10 +229,10 @@ entered moved joins a b c d s t u v p n ts g e h f k i =
       states = subst (λ x. Steps true (state_of a) (Turned p ∷ (map Took ts ++ map Posted (turn ts n (state_of a)).posts)) x) (sym (i ∙ ap (λ x. (settle_turn n x).state) mid)) (whole_turn true p n ts (state_of a));
     }
 
-pub entered_none : {Q : Type 0} (moved : Q → List Taken → List Completion → Q → Type 0) (a b : MemoryPartner) (s t : Q) → GoesBy moved a b s t [] → state_of b ≡ state_of a → Enters told_log told_state moved a b s t []
+pub entered_none : {Q : Type 0} (moved : Q → List Taken → List Completion → Q → Type 0) (a b : MemoryPartner) (s t : Q) → GoesBy moved a b s t [] → state_of b ≡ state_of a → Enters file_machine told_log told_state moved a b s t []
 entered_none moved a b s t g e = record { sides = g.sides; logs = ap Some g.grown; states = e }
 
-pub is_whole : (a : PartnerState) (x : Option Lists) (p n : ℕ) (ts : List Taken) → length ts ≡ p → AllRoom n (take_all a ts) x → IsWholeTurn (Some a) x (Turned p ∷ (map Took ts ++ map Posted (turn ts n a).posts))
+pub is_whole : (a : PartnerState) (x : Option Lists) (p n : ℕ) (ts : List Taken) → length ts ≡ p → AllRoom n (take_all a ts) x → IsWholeTurn file_machine (Some a) x (Turned p ∷ (map Took ts ++ map Posted (turn ts n a).posts))
 is_whole a None p n ts e h = tt
 is_whole a (Some l) p n ts e h = record { ts = ts; moves = λ i. Turned (sym e i) ∷ (map Took ts ++ map Posted (h i).posts) }
 

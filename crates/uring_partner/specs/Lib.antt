@@ -1,7 +1,7 @@
-pub mod Calls
 pub mod Bound
 pub mod Marks
 pub mod Settling
 pub mod Told
 pub mod Parts
 pub mod Logs
+pub use Rattle.partner_calls.specs.Calls as Calls

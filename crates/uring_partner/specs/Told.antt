@@ -1,5 +1,9 @@
 -- What a memory partner tells.
 use Rattle.std.specs.Prelude.{ℕ, List, Option, Some}
+use Rattle.std.specs.FinMap.{insert}
+use Rattle.uring_model.specs.Machine.{Files}
+use Rattle.uring_model.specs.Viewed.{AnyFiles, same_files}
+use Rattle.partner_calls.specs.Calls.{Puts}
 use Rattle.uring_entry.specs.declared.events.LogEvent.{LogEvent}
 use Rattle.uring_model.specs.Partner.{PartnerState}
 use Rattle.uring_partner.specs.declared.memory.MemoryPartner.{MemoryPartner}
@@ -18,3 +22,10 @@ told_plan p = p.plan.items
 
 abbrev pub told_faults : MemoryPartner → ℕ
 told_faults p = p.faults
+
+-- a file put in stands in place of what was there
+abbrev pub put_in : ℕ → List ℕ → Files → Files
+put_in number bytes files = insert files number bytes
+
+abbrev pub puts_in : Puts same_files AnyFiles put_in
+puts_in = record { seen = λ number bytes files i. insert files number bytes; plain = λ number bytes files plain. tt }

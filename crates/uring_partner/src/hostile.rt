@@ -2,9 +2,8 @@
 
 ghost use Rattle.std.specs.Prelude.{◌≡◌, [], IfOk};
 
-use crate::call::{EnterCall, PartnerError};
 use crate::logging::{event_at, push_known};
-use crate::traits::{Counts, Partner, Seedable};
+use partner_calls::{Counts, EnterCall, Partner, PartnerError, Seedable};
 use std::alloc::{AllocError, Global};
 use uring_entry::cqueue::more;
 use uring_entry::{Buf, Completion, Event, Loan, LogEvent};
@@ -53,8 +52,9 @@ impl HostilePartner {
     ghost use Rattle.uring_entry.specs.declared.events.Taken.{Taken};
     ghost use Rattle.uring_entry.specs.declared.events.Completion.{Completion};
     ghost use Rattle.uring_model.specs.Moves.{Move, Turned, Took, Posted, took};
+    ghost use Rattle.uring_model.specs.Partner.{file_machine};
     ghost use Rattle.uring_partner.specs.Logs.{LogsBy, hostile_log, loans_held, no_state, script_left};
-    ghost use Rattle.uring_partner.specs.Calls.{Enters, IsCall};
+    ghost use Rattle.partner_calls.specs.Calls.{Enters, IsCall};
 
     /// A partner with this script, which holds nothing and has no events.
     pub fn new(alloc: Global, script: Vec<Scripted>) -> HostilePartner
@@ -89,7 +89,7 @@ impl HostilePartner {
     fn take_one<Q: PartnerSide>(&mut self, side: &mut Q) -> Result<(), AllocError>
         requires { 0 < Q.ready side.old }
         ensures ok { OnOk result ((t : Taken) × LogsBy Q.moved self.old.log.items self.new.log.items side.old side.new (Took t ∷ [])) }
-        ensures ready { OnOk result (Q.ready side.old ≡ Q.ready side.new + 1) }
+        ensures ready { OnOk result (Q.ready side.old ≤ Q.ready side.new + 1) }
         ensures err { OnErr result (LogsBy Q.moved self.old.log.items self.new.log.items side.old side.new []) }
     {
         self.log.try_reserve(1)?;
@@ -188,7 +188,7 @@ impl HostilePartner {
         to_submit: u32,
         side: &mut Q,
     ) -> Result<u32, AllocError>
-        ensures moves { (ms : List Move) × Enters hostile_log no_state Q.moved self.old self.new side.old side.new ms
+        ensures moves { (ms : List Move) × Enters file_machine hostile_log no_state Q.moved self.old self.new side.old side.new ms
             × IsCall (is_ok result) to_submit (Q.lists side.old) ms
             × IfOk result (λ n. n ≡ length (took ms)) }
     {
@@ -251,13 +251,31 @@ impl Counts for HostilePartner {
 
 impl Partner for HostilePartner {
     ghost use Rattle.std.specs.Prelude.{[], length, refl};
+    ghost use Rattle.uring_model.specs.Machine.{Files};
+    ghost use Rattle.uring_model.specs.Partner.{file_machine};
+    ghost use Rattle.uring_model.specs.Viewed.{AnyFiles, same_files, files_refine};
     ghost use Rattle.uring_partner.specs.Logs.{hostile_log, no_state};
+    ghost use Rattle.uring_partner.specs.Told.{put_in, puts_in};
 
     ghost log = { hostile_log };
 
     ghost log_count = { λ p. length p.log.items };
 
+    ghost World = { Files };
+
+    ghost machine = { file_machine };
+
     ghost state = { no_state };
+
+    ghost view = { same_files };
+
+    ghost Plain = { AnyFiles };
+
+    ghost refines = { files_refine };
+
+    ghost put = { put_in };
+
+    ghost puts = { puts_in };
 
     ghost plan = { λ _. [] };
 

@@ -1,7 +1,6 @@
 //! Partners: what stands in the kernel's place at the other end of both rings.
 #![tactic(auto)]
 
-mod call;
 mod chain;
 mod hostile;
 mod logging;
@@ -10,9 +9,7 @@ mod pending_list;
 mod plan;
 mod scan;
 mod settle;
-mod traits;
 
-pub use call::{EnterCall, PartnerError};
 pub use hostile::{HostilePartner, LoanPlan, Scripted};
 pub use memory::MemoryPartner;
-pub use traits::{Counts, Partner, Seedable};
+pub use partner_calls::{Counts, EnterCall, Partner, PartnerError, Seedable};

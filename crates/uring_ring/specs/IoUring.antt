@@ -61,6 +61,18 @@ pub record RingMoves {S C : Type 0} (kept : Completion → Completion) (before :
   pub room : (entries_in after).spare ≡ (entries_in before).spare
   pub waiting : (completions_in after).waiting ≡ (completions_in before).waiting
   pub parameters : parameters_of after ≡ parameters_of before
+  pub words : words_of after ≡ words_of before
+
+-- the partner changed words alone
+pub record RingMarks {S C : Type 0} (before after : IoUring S C) : Type 0 where
+  pub entries : entries_in after ≡ entries_in before
+  pub completions : completions_in after ≡ completions_in before
+  pub parameters : parameters_of after ≡ parameters_of before
+  pub user : (words_of after).completion_flags ≡ (words_of before).completion_flags
+
+-- the counters of what couldn't be taken and posted
+abbrev pub counters_of : Words → ℕ × ℕ
+counters_of words = (words.dropped, words.overflow)
 
 -- these entries were offered and these completions reaped
 pub record RingUses {S C : Type 0} (before : IoUring S C) (ts : List Taken) (cs : List Completion) (after : IoUring S C) : Type 0 where

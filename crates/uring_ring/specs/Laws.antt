@@ -1,4 +1,5 @@
 -- The laws of both sides, for a pair of rings for one thread, and their proofs.
+use Rattle.std.specs.Prelude.{Option, Some}
 use Rattle.std.proofs.Common.{◌≡◌, ℕ, ◌+◌, ◌%◌, ◌^◌, List, [], ◌∷◌, ◌++◌, length, map, refl, sym, ap, ◌∙◌, arith, append_assoc, append-nil, length-append}
 use Rattle.std.proofs.Math.Nat.{add-mod}
 use Rattle.uring_entry.specs.declared.events.Taken.{Taken}
@@ -6,11 +7,11 @@ use Rattle.uring_entry.specs.declared.events.Completion.{Completion}
 use Rattle.uring_ring.specs.declared.submission_ring.SubmissionRing.{SubmissionRing}
 use Rattle.uring_ring.specs.declared.completion_ring.CompletionRing.{CompletionRing}
 use Rattle.uring_ring.specs.declared.plain_side.PlainSide.{PlainSide}
-use Rattle.uring_ring.specs.PlainSide.{SideMoves, side_lists}
+use Rattle.uring_ring.specs.PlainSide.{SideMoves, SideMarks, side_lists, side_entries, side_completions}
 use Rattle.uring_ring.specs.declared.io_uring.IoUring.{IoUring}
 use Rattle.uring_ring.specs.Lists.{Lists, lists_between, HasRoom, Moves, Uses, Advances}
 use Rattle.ring_core.specs.Slots.{held_of, held-fits}
-use Rattle.uring_ring.specs.IoUring.{lists_of, entries_in, completions_in, RingMoves, RingUses}
+use Rattle.uring_ring.specs.IoUring.{lists_of, entries_in, completions_in, RingMoves, RingMarks, RingUses}
 
 pub has_room_between : (entries : SubmissionRing) (completions : CompletionRing) → HasRoom (lists_between (held_of entries.slots) (held_of completions.slots))
 has_room_between entries completions =
@@ -63,7 +64,7 @@ Advances-then p q r ts us f g =
     g ∙ add-mod q (length us) (2 ^ 32) ∙ ap (λ (x : ℕ). (x + length us % 2 ^ 32) % 2 ^ 32) f ∙ sym (add-mod (p + length ts) (length us) (2 ^ 32)) ∙ ap (λ (x : ℕ). x % 2 ^ 32) sum
 
 pub RingMoves-none : {S C : Type 0} (kept : Completion → Completion) (a : IoUring S C) → RingMoves kept a [] [] a
-RingMoves-none kept a = record { lists = Moves-none kept (lists_of a); offer_place = refl; reap_place = refl; room = refl; waiting = refl; parameters = refl }
+RingMoves-none kept a = record { lists = Moves-none kept (lists_of a); offer_place = refl; reap_place = refl; room = refl; waiting = refl; parameters = refl; words = refl }
 
 pub RingMoves-then : {S C : Type 0} (kept : Completion → Completion) (a b c : IoUring S C) (ts us : List Taken) (cs ds : List Completion) → RingMoves kept a ts cs b → RingMoves kept b us ds c → RingMoves kept a (ts ++ us) (cs ++ ds) c
 RingMoves-then kept a b c ts us cs ds p q = record {
@@ -73,6 +74,7 @@ RingMoves-then kept a b c ts us cs ds p q = record {
   room = q.room ∙ p.room;
   waiting = q.waiting ∙ p.waiting;
   parameters = q.parameters ∙ p.parameters;
+  words = q.words ∙ p.words;
 }
 
 pub RingUses-none : {S C : Type 0} (a : IoUring S C) → RingUses a [] [] a
@@ -90,7 +92,7 @@ RingUses-then a b c ts us cs ds p q = record {
 }
 
 pub SideMoves-none : {S C : Type 0} (kept : Completion → Completion) (a : PlainSide S C) → SideMoves kept a [] [] a
-SideMoves-none kept a = record { lists = Moves-none kept (side_lists a); offer_place = refl; reap_place = refl; room = refl; waiting = refl; submissions = refl; completions = refl; entries_lent = refl; completions_lent = refl }
+SideMoves-none kept a = record { lists = Moves-none kept (side_lists a); offer_place = refl; reap_place = refl; room = refl; waiting = refl; submissions = refl; completions = refl; entries_lent = refl; completions_lent = refl; words = refl }
 
 pub SideMoves-then : {S C : Type 0} (kept : Completion → Completion) (a b c : PlainSide S C) (ts us : List Taken) (cs ds : List Completion) → SideMoves kept a ts cs b → SideMoves kept b us ds c → SideMoves kept a (ts ++ us) (cs ++ ds) c
 SideMoves-then kept a b c ts us cs ds p q = record {
@@ -103,7 +105,16 @@ SideMoves-then kept a b c ts us cs ds p q = record {
   completions = q.completions ∙ p.completions;
   entries_lent = q.entries_lent ∙ p.entries_lent;
   completions_lent = q.completions_lent ∙ p.completions_lent;
+  words = q.words ∙ p.words;
 }
 
 pub side_has_room : {S C : Type 0} (side : PlainSide S C) → HasRoom (side_lists side)
 side_has_room side = has_room_between side.submissions.now.ring.now side.completions.now.ring.now
+
+-- where words alone changed, the lists and the places are as they were
+
+pub marked_lists : {S C : Type 0} (a b : IoUring S C) → RingMarks a b → ◌≡◌ {A = Option Lists} (Some (lists_of b)) (Some (lists_of a))
+marked_lists a b m = ap (λ x. Some (lists_between x (completions_in b))) m.entries ∙ ap (λ x. Some (lists_between (entries_in a) x)) m.completions
+
+pub marked_side : {S C : Type 0} (a b : PlainSide S C) → SideMarks a b → ◌≡◌ {A = Option Lists} (Some (side_lists b)) (Some (side_lists a))
+marked_side a b m = ap (λ x. Some (lists_between x (side_completions b))) m.entries ∙ ap (λ x. Some (lists_between (side_entries a) x)) m.posts

@@ -37,3 +37,14 @@ pub record SideMoves {S C : Type 0} (kept : Completion → Completion) (before :
   pub completions : after.completions.ghost_name ≡ before.completions.ghost_name
   pub entries_lent : after.submissions.now.ring.ghost_name ≡ before.submissions.now.ring.ghost_name
   pub completions_lent : after.completions.now.ring.ghost_name ≡ before.completions.now.ring.ghost_name
+  pub words : side_words after ≡ side_words before
+
+-- the partner changed words alone; the same queue values lend the same rings
+pub record SideMarks {S C : Type 0} (before after : PlainSide S C) : Type 0 where
+  pub entries : side_entries after ≡ side_entries before
+  pub posts : side_completions after ≡ side_completions before
+  pub submissions : after.submissions.ghost_name ≡ before.submissions.ghost_name
+  pub completions : after.completions.ghost_name ≡ before.completions.ghost_name
+  pub entries_lent : after.submissions.now.ring.ghost_name ≡ before.submissions.now.ring.ghost_name
+  pub completions_lent : after.completions.now.ring.ghost_name ≡ before.completions.now.ring.ghost_name
+  pub user : (side_words after).completion_flags ≡ (side_words before).completion_flags

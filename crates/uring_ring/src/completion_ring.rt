@@ -42,7 +42,7 @@ pub(crate) struct CompletionRing {
 }
 
 impl CompletionRing {
-    ghost use Rattle.std.specs.Prelude.{◌↔◌, ◌<◌, true, IfOk, IsOk, IfErr, OnOk, OnErr};
+    ghost use Rattle.std.specs.Prelude.{◌↔◌, ◌<◌, ◌≤◌, ◌+◌, true, IfOk, IsOk, IfErr, OnOk, OnErr};
     ghost use Rattle.ring_core.specs.Positions.{is_ring_size};
     ghost use Rattle.ring_core.specs.Slots.{opened, with_head_seen, with_post};
 
@@ -76,12 +76,15 @@ impl CompletionRing {
 
     /// The partner posts a completion, of which a ring of entries `C` keeps what a `C` holds.
     pub(crate) fn post<C: EntryMarker>(&mut self, completion: Completion) -> Result<(), Completion>
-        ensures room { IsOk result ↔ (0 < (held_of self.old.slots).spare) }
-        ensures ok { OnOk result (held_of self.new.slots ≡ with_post (kept_as C.made_of C.big_of completion) (held_of self.old.slots)) }
+        ensures room { IsOk result ↔ (0 < (with_head_seen (held_of self.old.slots)).spare) }
+        ensures ok { OnOk result (held_of self.new.slots ≡ with_post (kept_as C.made_of C.big_of completion) (with_head_seen (held_of self.old.slots))) }
         ensures back { IfErr result (λ c. c ≡ completion) }
-        ensures err { OnErr result (self.new ≡ self.old) }
+        ensures err { OnErr result (held_of self.new.slots ≡ with_head_seen (held_of self.old.slots)) }
+        ensures known { 0 < (held_of self.old.slots).spare → IsOk result }
+        ensures count { OnOk result ((held_of self.old.slots).spare ≤ (held_of self.new.slots).spare + 1) }
         ensures words { self.new.words ≡ self.old.words }
     {
+        self.slots.see_head();
         if self.slots.spare() == 0 {
             return Err(completion);
         }

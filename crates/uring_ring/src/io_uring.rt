@@ -163,12 +163,13 @@ impl<S, C: cqueue::EntryMarker> Rings for IoUring<S, C> {
 }
 
 impl<S, C: cqueue::EntryMarker> PartnerSide for IoUring<S, C> {
-    ghost use Rattle.std.specs.Prelude.{◌+◌, ◌<◌, ◌↔◌, [], ◌∷◌, IsOk, IsSome, OnOk, OnErr, IfErr};
+    ghost use Rattle.std.specs.Prelude.{◌+◌, ◌<◌, ◌↔◌, [], ◌∷◌, IsOk, IsSome, OnOk, OnErr, IfErr, ◌⊎◌};
+    ghost use Rattle.std.proofs.Common.{ap};
     ghost use Rattle.std.specs.Option.{option_to_list};
     ghost use Rattle.uring_ring.specs.Lists.{room_of};
     ghost use Rattle.uring_ring.specs.Sizes.{kept_as};
-    ghost use Rattle.uring_ring.specs.IoUring.{RingMoves, lists_of, entries_in, completions_in, words_of, one_more};
-    ghost use Rattle.uring_ring.specs.Laws.{RingMoves-none, RingMoves-then};
+    ghost use Rattle.uring_ring.specs.IoUring.{RingMoves, RingMarks, lists_of, entries_in, completions_in, words_of, one_more, counters_of};
+    ghost use Rattle.uring_ring.specs.Laws.{RingMoves-none, RingMoves-then, marked_lists};
 
     ghost moved = { RingMoves (kept_as C.made_of C.big_of) };
 
@@ -177,6 +178,10 @@ impl<S, C: cqueue::EntryMarker> PartnerSide for IoUring<S, C> {
     ghost space = { λ ring. (completions_in ring).spare };
 
     ghost flags_word = { λ ring. (words_of ring).flags };
+
+    ghost counters = { λ ring. counters_of (words_of ring) };
+
+    ghost marked = { RingMarks };
 
     // Each call of this side has the trait's clauses, and says what the words beside the rings are.
     fn published(&mut self) -> u32
@@ -192,8 +197,10 @@ impl<S, C: cqueue::EntryMarker> PartnerSide for IoUring<S, C> {
 
     fn take(&mut self) -> Option<Taken>
         ensures moved { RingMoves (kept_as C.made_of C.big_of) self.old (option_to_list result) [] self.new }
-        ensures some { IsSome result ↔ (0 < (entries_in self.old).waiting) }
-        ensures count { (entries_in self.old).waiting ≡ (entries_in self.new).waiting + length (option_to_list result) }
+        ensures known { 0 < (entries_in self.old).waiting → IsSome result }
+        ensures told { IsSome result ↔ (0 < length (entries_in self.old).published) }
+        ensures none { IsSome result ⊎ ((entries_in self.new).waiting ≡ 0) }
+        ensures count { (entries_in self.old).waiting ≤ (entries_in self.new).waiting + length (option_to_list result) }
         ensures space { (completions_in self.new).spare ≡ (completions_in self.old).spare }
         ensures words { words_of self.new ≡ words_of self.old }
     {
@@ -212,10 +219,11 @@ impl<S, C: cqueue::EntryMarker> PartnerSide for IoUring<S, C> {
     }
 
     fn post(&mut self, completion: Completion) -> Result<(), Completion>
-        ensures room { IsOk result ↔ (0 < (completions_in self.old).spare) }
-        ensures ok { OnOk result (RingMoves (kept_as C.made_of C.big_of) self.old [] (completion ∷ []) self.new × ((completions_in self.old).spare ≡ (completions_in self.new).spare + 1)) }
+        ensures known { 0 < (completions_in self.old).spare → IsOk result }
+        ensures told { IsOk result ↔ (0 < room_of (lists_of self.old)) }
+        ensures ok { OnOk result (RingMoves (kept_as C.made_of C.big_of) self.old [] (completion ∷ []) self.new × ((completions_in self.old).spare ≤ (completions_in self.new).spare + 1)) }
         ensures back { IfErr result (λ c. c ≡ completion) }
-        ensures err { OnErr result (self.new ≡ self.old) }
+        ensures err { OnErr result (RingMoves (kept_as C.made_of C.big_of) self.old [] [] self.new × ((completions_in self.new).spare ≡ 0)) }
         ensures ready { (entries_in self.new).waiting ≡ (entries_in self.old).waiting }
         ensures words { words_of self.new ≡ words_of self.old }
     {
@@ -227,7 +235,9 @@ impl<S, C: cqueue::EntryMarker> PartnerSide for IoUring<S, C> {
     }
 
     fn set_sq_flags(&mut self, flags: u32)
-        ensures moved { RingMoves (kept_as C.made_of C.big_of) self.old [] [] self.new }
+        ensures marked { RingMarks self.old self.new }
+        ensures word { ((words_of self.new).flags ≡ flags) ⊎ ((words_of self.new).flags ≡ 0) }
+        ensures counters { counters_of (words_of self.new) ≡ counters_of (words_of self.old) }
         ensures known { ((entries_in self.new).waiting ≡ (entries_in self.old).waiting) × ((completions_in self.new).spare ≡ (completions_in self.old).spare) }
         ensures words { words_of self.new ≡ record (words_of self.old) { flags = flags } }
     {
@@ -235,7 +245,8 @@ impl<S, C: cqueue::EntryMarker> PartnerSide for IoUring<S, C> {
     }
 
     fn add_dropped(&mut self)
-        ensures moved { RingMoves (kept_as C.made_of C.big_of) self.old [] [] self.new }
+        ensures marked { RingMarks self.old self.new }
+        ensures word { (words_of self.new).flags ≡ (words_of self.old).flags }
         ensures known { ((entries_in self.new).waiting ≡ (entries_in self.old).waiting) × ((completions_in self.new).spare ≡ (completions_in self.old).spare) }
         ensures words { words_of self.new ≡ record (words_of self.old) { dropped = one_more (words_of self.old).dropped } }
     {
@@ -244,7 +255,8 @@ impl<S, C: cqueue::EntryMarker> PartnerSide for IoUring<S, C> {
     }
 
     fn add_overflow(&mut self)
-        ensures moved { RingMoves (kept_as C.made_of C.big_of) self.old [] [] self.new }
+        ensures marked { RingMarks self.old self.new }
+        ensures word { (words_of self.new).flags ≡ (words_of self.old).flags }
         ensures known { ((entries_in self.new).waiting ≡ (entries_in self.old).waiting) × ((completions_in self.new).spare ≡ (completions_in self.old).spare) }
         ensures words { words_of self.new ≡ record (words_of self.old) { overflow = one_more (words_of self.old).overflow } }
     {
@@ -259,6 +271,12 @@ impl<S, C: cqueue::EntryMarker> PartnerSide for IoUring<S, C> {
     ghost moved_told = { λ a b ts cs moves. moves.lists };
 
     ghost moved_places = { λ a b ts cs moves. (moves.offer_place, moves.reap_place) };
+
+    ghost moved_words = { λ a b ts cs moves. (ap (λ w. w.flags) moves.words, ap counters_of moves.words) };
+
+    ghost marked_told = { marked_lists };
+
+    ghost marked_places = { λ a b marks. (ap (λ h. h.put_place) marks.entries, ap (λ h. h.take_place) marks.completions) };
 }
 
 impl<S, C: cqueue::EntryMarker> UserEnds for IoUring<S, C> {

@@ -56,12 +56,13 @@ impl<S, C: cqueue::EntryMarker> Rings for PlainSide<'_, '_, S, C> {
 
 impl<S, C: cqueue::EntryMarker> PartnerSide for PlainSide<'_, '_, S, C> {
     ghost use Rattle.std.specs.Prelude.{◌+◌, ◌<◌, ◌↔◌, ◌⊎◌, [], ◌∷◌, IsOk, IsSome, OnOk, OnErr, IfErr};
+    ghost use Rattle.std.proofs.Common.{ap};
     ghost use Rattle.std.specs.Option.{option_to_list};
     ghost use Rattle.uring_ring.specs.Lists.{room_of};
     ghost use Rattle.uring_ring.specs.Sizes.{kept_as};
-    ghost use Rattle.uring_ring.specs.IoUring.{one_more};
-    ghost use Rattle.uring_ring.specs.PlainSide.{SideMoves, side_lists, side_entries, side_completions, side_words};
-    ghost use Rattle.uring_ring.specs.Laws.{SideMoves-none, SideMoves-then};
+    ghost use Rattle.uring_ring.specs.IoUring.{one_more, counters_of};
+    ghost use Rattle.uring_ring.specs.PlainSide.{SideMoves, SideMarks, side_lists, side_entries, side_completions, side_words};
+    ghost use Rattle.uring_ring.specs.Laws.{SideMoves-none, SideMoves-then, marked_side};
 
     ghost moved = { SideMoves (kept_as C.made_of C.big_of) };
 
@@ -70,6 +71,10 @@ impl<S, C: cqueue::EntryMarker> PartnerSide for PlainSide<'_, '_, S, C> {
     ghost space = { λ side. (side_completions side).spare };
 
     ghost flags_word = { λ side. (side_words side).flags };
+
+    ghost counters = { λ side. counters_of (side_words side) };
+
+    ghost marked = { SideMarks };
 
     // Each call has the trait's clauses, and says what the words beside the rings are.
     fn published(&mut self) -> u32
@@ -85,8 +90,10 @@ impl<S, C: cqueue::EntryMarker> PartnerSide for PlainSide<'_, '_, S, C> {
 
     fn take(&mut self) -> Option<Taken>
         ensures moved { SideMoves (kept_as C.made_of C.big_of) self.old (option_to_list result) [] self.new }
-        ensures some { IsSome result ↔ (0 < (side_entries self.old).waiting) }
-        ensures count { (side_entries self.old).waiting ≡ (side_entries self.new).waiting + length (option_to_list result) }
+        ensures known { 0 < (side_entries self.old).waiting → IsSome result }
+        ensures told { IsSome result ↔ (0 < length (side_entries self.old).published) }
+        ensures none { IsSome result ⊎ ((side_entries self.new).waiting ≡ 0) }
+        ensures count { (side_entries self.old).waiting ≤ (side_entries self.new).waiting + length (option_to_list result) }
         ensures space { (side_completions self.new).spare ≡ (side_completions self.old).spare }
         ensures words { side_words self.new ≡ side_words self.old }
     {
@@ -105,10 +112,11 @@ impl<S, C: cqueue::EntryMarker> PartnerSide for PlainSide<'_, '_, S, C> {
     }
 
     fn post(&mut self, completion: Completion) -> Result<(), Completion>
-        ensures room { IsOk result ↔ (0 < (side_completions self.old).spare) }
-        ensures ok { OnOk result (SideMoves (kept_as C.made_of C.big_of) self.old [] (completion ∷ []) self.new × ((side_completions self.old).spare ≡ (side_completions self.new).spare + 1)) }
+        ensures known { 0 < (side_completions self.old).spare → IsOk result }
+        ensures told { IsOk result ↔ (0 < room_of (side_lists self.old)) }
+        ensures ok { OnOk result (SideMoves (kept_as C.made_of C.big_of) self.old [] (completion ∷ []) self.new × ((side_completions self.old).spare ≤ (side_completions self.new).spare + 1)) }
         ensures back { IfErr result (λ c. c ≡ completion) }
-        ensures err { OnErr result (self.new ≡ self.old) }
+        ensures err { OnErr result (SideMoves (kept_as C.made_of C.big_of) self.old [] [] self.new × ((side_completions self.new).spare ≡ 0)) }
         ensures ready { (side_entries self.new).waiting ≡ (side_entries self.old).waiting }
         ensures words { side_words self.new ≡ side_words self.old }
     {
@@ -120,7 +128,8 @@ impl<S, C: cqueue::EntryMarker> PartnerSide for PlainSide<'_, '_, S, C> {
     }
 
     fn set_sq_flags(&mut self, flags: u32)
-        ensures moved { SideMoves (kept_as C.made_of C.big_of) self.old [] [] self.new }
+        ensures marked { SideMarks self.old self.new }
+        ensures counters { counters_of (side_words self.new) ≡ counters_of (side_words self.old) }
         ensures known { ((side_entries self.new).waiting ≡ (side_entries self.old).waiting) × ((side_completions self.new).spare ≡ (side_completions self.old).spare) }
         ensures word { ((side_words self.new).flags ≡ flags) ⊎ ((side_words self.new).flags ≡ 0) }
         ensures words { side_words self.new ≡ record (side_words self.old) { flags = flags } }
@@ -131,7 +140,8 @@ impl<S, C: cqueue::EntryMarker> PartnerSide for PlainSide<'_, '_, S, C> {
     }
 
     fn add_dropped(&mut self)
-        ensures moved { SideMoves (kept_as C.made_of C.big_of) self.old [] [] self.new }
+        ensures marked { SideMarks self.old self.new }
+        ensures word { (side_words self.new).flags ≡ (side_words self.old).flags }
         ensures known { ((side_entries self.new).waiting ≡ (side_entries self.old).waiting) × ((side_completions self.new).spare ≡ (side_completions self.old).spare) }
         ensures words { side_words self.new ≡ record (side_words self.old) { dropped = one_more (side_words self.old).dropped } }
     {
@@ -141,7 +151,8 @@ impl<S, C: cqueue::EntryMarker> PartnerSide for PlainSide<'_, '_, S, C> {
     }
 
     fn add_overflow(&mut self)
-        ensures moved { SideMoves (kept_as C.made_of C.big_of) self.old [] [] self.new }
+        ensures marked { SideMarks self.old self.new }
+        ensures word { (side_words self.new).flags ≡ (side_words self.old).flags }
         ensures known { ((side_entries self.new).waiting ≡ (side_entries self.old).waiting) × ((side_completions self.new).spare ≡ (side_completions self.old).spare) }
         ensures words { side_words self.new ≡ record (side_words self.old) { overflow = one_more (side_words self.old).overflow } }
     {
@@ -157,4 +168,10 @@ impl<S, C: cqueue::EntryMarker> PartnerSide for PlainSide<'_, '_, S, C> {
     ghost moved_told = { λ a b ts cs moves. moves.lists };
 
     ghost moved_places = { λ a b ts cs moves. (moves.offer_place, moves.reap_place) };
+
+    ghost moved_words = { λ a b ts cs moves. (ap (λ w. w.flags) moves.words, ap counters_of moves.words) };
+
+    ghost marked_told = { marked_side };
+
+    ghost marked_places = { λ a b marks. (ap (λ h. h.put_place) marks.entries, ap (λ h. h.take_place) marks.posts) };
 }

@@ -25,7 +25,8 @@ pub(crate) struct SubmissionRing {
 }
 
 impl SubmissionRing {
-    ghost use Rattle.std.specs.Prelude.{◌↔◌, ◌<◌, length, true, IfOk, IsSome, MatchOption};
+    ghost use Rattle.std.specs.Prelude.{◌↔◌, ◌<◌, ◌+◌, length, true, IfOk, IsSome, MatchOption};
+    ghost use Rattle.std.specs.Option.{option_to_list};
     ghost use Rattle.ring_core.specs.Positions.{is_ring_size};
     ghost use Rattle.ring_core.specs.Slots.{opened, with_tail_seen, TakesForGood};
 
@@ -58,12 +59,15 @@ impl SubmissionRing {
         self.slots.published()
     }
 
-    /// The partner takes the entry in front, and gives its slot back.
+    /// The partner looks, takes the entry in front, and gives its slot back.
     pub(crate) fn take(&mut self) -> Option<Taken>
-        ensures some { IsSome result ↔ (0 < (held_of self.old.slots).waiting) }
-        ensures taken { MatchOption result (held_of self.new.slots ≡ held_of self.old.slots) (λ taken. TakesForGood taken (held_of self.old.slots) (held_of self.new.slots)) }
+        ensures some { IsSome result ↔ (0 < length (held_of self.old.slots).published) }
+        ensures taken { MatchOption result (held_of self.new.slots ≡ with_tail_seen (held_of self.old.slots)) (λ taken. TakesForGood taken (with_tail_seen (held_of self.old.slots)) (held_of self.new.slots)) }
+        ensures known { 0 < (held_of self.old.slots).waiting → IsSome result }
+        ensures count { (held_of self.old.slots).waiting ≤ (held_of self.new.slots).waiting + length (option_to_list result) }
         ensures words { self.new.words ≡ self.old.words }
     {
+        self.slots.see_tail();
         let taken = self.slots.take()?;
         self.slots.publish_head();
         Some(taken)

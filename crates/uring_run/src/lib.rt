@@ -1,24 +1,7 @@
-//! Jobs, run over a ring and a partner; and, under one name, the texts and the streams around
-//! them.
+//! Jobs, run over a ring and a partner, and the texts and the streams around them, under one name.
 #![tactic(auto)]
 
-mod drive;
-mod entries;
-mod flights;
-mod job_op;
-mod laws;
-mod offers;
-mod polls;
-mod round;
-mod run;
-mod slot;
-mod starts;
-mod table;
-#[cfg(test)]
-mod tests;
-
-pub use run::run_jobs;
-pub use uring_model::{Job, JobKind, Link, Outcome, Report, RunFault};
+pub use run_loop::{Job, JobKind, Link, Outcome, Report, RunFault, run_jobs};
 pub use uring_streams::{
     Failed, InputFault, MemorySink, MemorySource, Sink, Source, StdSink, StdSource, read_all,
     write_all,

@@ -4,25 +4,25 @@ use Rattle.uring_entry.specs.declared.events.Taken.{Taken}
 use Rattle.uring_entry.specs.declared.events.Completion.{Completion}
 use Rattle.uring_entry.specs.declared.events.LogEvent.{LogEvent}
 use Rattle.uring_model.specs.Moves.{Move, took}
-use Rattle.uring_model.specs.Partner.{PartnerState}
+use Rattle.uring_model.specs.Schedule.{Machine, State}
 use Rattle.ring_setup.specs.declared.parameters.Parameters.{Parameters}
 use Rattle.uring_ring.specs.Lists.{Lists}
-use Rattle.uring_partner.specs.declared.call.EnterCall.{EnterCall}
-use Rattle.uring_partner.specs.Calls.{Enters, IsCall, IsWholeTurn}
+use Rattle.partner_calls.specs.declared.call.EnterCall.{EnterCall}
+use Rattle.partner_calls.specs.Calls.{Enters, IsCall, IsWholeTurn}
 use Rattle.uring_submit.specs.declared.error.SubmitError.{SubmitError}
 use Rattle.uring_submit.specs.declared.submitter.Submitter.{Submitter}
 
 abbrev pub params_of : Submitter → Parameters
 params_of submitter = submitter.params
 
-module _ {P Q : Type 0} (log : P → Option (List LogEvent)) (state : P → Option PartnerState) (lists : Q → Option Lists) (moved : Q → List Taken → List Completion → Q → Type 0) where
+module _ {W : Type 0} (m : Machine W) {P Q : Type 0} (log : P → Option (List LogEvent)) (state : P → Option (State W)) (lists : Q → Option Lists) (moved : Q → List Taken → List Completion → Q → Type 0) where
   -- one enter with these values, as a partner promises it: there is one list of moves, a turn where it succeeds
   pub record EntersOnce (entered : EnterCall) (old new : P) (from to : Q) (result : Result ℕ SubmitError) : Type 0 where
     pub moves : List Move
-    pub made : Enters log state moved old new from to moves
+    pub made : Enters m log state moved old new from to moves
     pub call : IsCall (is_ok result) entered.to_submit (lists from) moves
     pub taken : IfOk result (λ n. n ≡ length (took moves))
-    pub whole : OnOk result (IsWholeTurn (state old) (lists from) moves)
+    pub whole : OnOk result (IsWholeTurn m (state old) (lists from) moves)
 
   -- the one enter that was decided, or the answer how many are published
   abbrev pub Submits : Option EnterCall → ℕ → P → P → Q → Q → Result ℕ SubmitError → Type 0

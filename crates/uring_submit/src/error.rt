@@ -1,6 +1,6 @@
 //! Why a submitter's call failed.
 
-use uring_partner::PartnerError;
+use partner_calls::PartnerError;
 
 /// Why a submitter's call failed.
 #[derive(Clone, Copy, PartialEq, Eq, Debug)]

@@ -6,6 +6,3 @@ mod submitter;
 
 pub use error::SubmitError;
 pub use submitter::Submitter;
-
-#[cfg(test)]
-mod tests;

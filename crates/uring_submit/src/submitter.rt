@@ -3,14 +3,14 @@
 ghost use Rattle.std.specs.Prelude.{◌≡◌, ◌^◌, ◌<◌, ℕ, true, IfErr, IfOk, IfSome, IsTrue, Contains, if◌then◌else◌, length};
 ghost use Rattle.uring_entry.specs.FlagBits.{has_bit};
 ghost use Rattle.uring_entry.specs.Causes.{HasCause};
-ghost use Rattle.uring_partner.specs.Calls.{later_plan};
+ghost use Rattle.partner_calls.specs.Calls.{later_plan};
 ghost use Rattle.uring_submit.specs.Decisions.{decision, enters, enter_flags, has_events, gets_events};
 ghost use Rattle.uring_submit.specs.Errors.{is_fault, is_of_partner};
 ghost use Rattle.uring_submit.specs.Submits.{params_of, Submits};
 
 use crate::error::SubmitError;
 use std::alloc::Global;
-use uring_partner::{EnterCall, Partner};
+use partner_calls::{EnterCall, Partner};
 use uring_ring::{Parameters, PartnerSide};
 
 /// The flag of an enter that asks for completions (`IORING_ENTER_GETEVENTS`).
@@ -45,7 +45,7 @@ impl Submitter {
     ) -> Result<usize, SubmitError>
         requires { want < 2 ^ 32 }
         ensures submits { (published : ℕ) × IfSome (Q.lists side.old) (λ l. published ≡ length l.published)
-            × Submits P.log P.state Q.lists Q.moved (decision published (Q.flags_word side.old) (params_of self.old) want) published partner.old partner.new side.old side.new result }
+            × Submits P.machine P.log P.state Q.lists Q.moved (decision published (Q.flags_word side.old) (params_of self.old) want) published partner.old partner.new side.old side.new result }
         ensures cause { HasCause is_fault (P.faults partner.old) (P.faults partner.new) result }
         ensures planned { IfSome (P.state partner.old) (λ _. IfErr result (λ e. IsTrue (is_fault e) → Contains (P.plan partner.old) 1)) }
         ensures counted { IfSome (P.state partner.old) (λ _. ¬ Contains (P.plan partner.old) 1 → P.faults partner.new ≡ P.faults partner.old) }

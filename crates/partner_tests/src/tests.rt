@@ -1,0 +1,4 @@
+mod engines;
+mod files;
+mod runs;
+mod submits;

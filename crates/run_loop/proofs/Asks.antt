@@ -1,0 +1,193 @@
+-- The entries of the jobs ask what the jobs ask, carry their numbers, and lend their buffers.
+use Rattle.std.proofs.Common.{◌≡◌, ℕ, ◌+◌, ◌<◌, ◌≤◌, ◌^◌, suc, Bool, true, false, ◌&&◌, not, cond, nat_eq, nat_lt, List, [], ◌∷◌, length, map, Option, Some, None, is_some, refl, ap, ◌∙◌, arith}
+use Rattle.std.specs.Int.{w32, cast_signed, cast_unsigned}
+use Rattle.std.specs.List.{AllByRecursion}
+use Rattle.std.proofs.lemmas.Bool.Decides.{nat_tests}
+use Rattle.std.proofs.lemmas.Int.{of_z-to_z}
+use Rattle.uring_entry.specs.declared.buffer.Loan.{Loan}
+use Rattle.uring_entry.specs.declared.events.Taken.{Taken}
+use Rattle.uring_model.specs.declared.jobs.Job.{Job}
+use Rattle.uring_model.specs.declared.jobs.JobKind.{JobKind}
+use Rattle.uring_model.specs.declared.jobs.JobKind.TheVariants.{Nop, Read, Write, Fsync, Ftruncate, Cancel}
+use Rattle.uring_model.specs.declared.jobs.Link.{Link}
+use Rattle.uring_model.specs.declared.jobs.Link.TheVariants.{Free, Soft, Hard}
+use Rattle.uring_model.specs.Machine as machine
+use Rattle.uring_model.specs.Jobs as model
+use Rattle.uring_model.specs.Jobs.{asked, all_asked, buf_lent, op_asked, is_valid_job}
+use Rattle.uring_model.specs.Replay.{last_unlinked}
+use Rattle.uring_model.specs.Partner.{job_of, unless_lacking}
+use Rattle.uring_model.specs.World.{is_six, IsSix}
+use Rattle.uring_model.specs.Explained.{Numbered}
+use Rattle.uring_model.specs.Strange.{has_other_number}
+use Rattle.uring_model.specs.Honest.{HasOwnLoan}
+use Rattle.uring_ring.specs.Lists.{small}
+use Rattle.run_loop.specs.Entries.{words_of, with_drain, with_link, loan_of, offer_of, offers_from, all_taken, reply_in, AllValid, IsInRange, AllInRange}
+use Rattle.run_loop.specs.Told.{reply_for, lends}
+use Rattle.run_loop.specs.declared.slot.Reply.{Reply}
+use Rattle.run_loop.specs.declared.slot.Reply.TheVariants.{Plain, Buffer, Success}
+use Rattle.run_loop.proofs.EntryLemmas.{valid_fits}
+
+-- what an entry of a file asks
+
+file_kept : (file : ℕ) → file < 2 ^ 32 → cast_unsigned w32 (cast_signed w32 file) ≡ file
+file_kept file h = of_z-to_z w32 file h
+
+short_enough : (n : ℕ) → n ≤ 2147483647 → nat_lt 2147483647 n ≡ false
+short_enough n h = grind (arith, nat_tests)
+
+lent_op : (j : ℕ) (buf : List ℕ) (op : machine.Op) → length buf ≤ 2147483647 → unless_lacking (Some (record { number = j; from = 0; buf = buf })) op ≡ op
+lent_op j buf op h = ap (λ b. cond b (machine.Refused 21) op) (short_enough (length buf) h)
+
+abbrev job_with : machine.Op → List ℕ → Bool → Link → model.Job
+job_with op buf drain link = record { op = op; buf = buf; drain = drain; link = link }
+
+-- an entry asks its job, whatever its marks
+asks_marked : (j : ℕ) (kind : JobKind) (drain : Bool) (link : Link) → length (buf_lent kind) ≤ 2147483647 → IsInRange kind
+    → job_of (small (record (with_link link (with_drain drain (words_of j kind))) { user_data = j }) (loan_of j kind)) ≡ job_with (op_asked kind) (buf_lent kind) drain link
+asks_marked j Nop true Free h r = refl
+asks_marked j Nop true Soft h r = refl
+asks_marked j Nop true Hard h r = refl
+asks_marked j Nop false Free h r = refl
+asks_marked j Nop false Soft h r = refl
+asks_marked j Nop false Hard h r = refl
+asks_marked j (Read file offset buf) true Free h r = ap (λ op. job_with op buf true Free) (lent_op j buf _ h ∙ ap (λ f. machine.Read f offset) (file_kept file r))
+asks_marked j (Read file offset buf) true Soft h r = ap (λ op. job_with op buf true Soft) (lent_op j buf _ h ∙ ap (λ f. machine.Read f offset) (file_kept file r))
+asks_marked j (Read file offset buf) true Hard h r = ap (λ op. job_with op buf true Hard) (lent_op j buf _ h ∙ ap (λ f. machine.Read f offset) (file_kept file r))
+asks_marked j (Read file offset buf) false Free h r = ap (λ op. job_with op buf false Free) (lent_op j buf _ h ∙ ap (λ f. machine.Read f offset) (file_kept file r))
+asks_marked j (Read file offset buf) false Soft h r = ap (λ op. job_with op buf false Soft) (lent_op j buf _ h ∙ ap (λ f. machine.Read f offset) (file_kept file r))
+asks_marked j (Read file offset buf) false Hard h r = ap (λ op. job_with op buf false Hard) (lent_op j buf _ h ∙ ap (λ f. machine.Read f offset) (file_kept file r))
+asks_marked j (Write file offset buf) true Free h r = ap (λ op. job_with op buf true Free) (lent_op j buf _ h ∙ ap (λ f. machine.Write f offset) (file_kept file r))
+asks_marked j (Write file offset buf) true Soft h r = ap (λ op. job_with op buf true Soft) (lent_op j buf _ h ∙ ap (λ f. machine.Write f offset) (file_kept file r))
+asks_marked j (Write file offset buf) true Hard h r = ap (λ op. job_with op buf true Hard) (lent_op j buf _ h ∙ ap (λ f. machine.Write f offset) (file_kept file r))
+asks_marked j (Write file offset buf) false Free h r = ap (λ op. job_with op buf false Free) (lent_op j buf _ h ∙ ap (λ f. machine.Write f offset) (file_kept file r))
+asks_marked j (Write file offset buf) false Soft h r = ap (λ op. job_with op buf false Soft) (lent_op j buf _ h ∙ ap (λ f. machine.Write f offset) (file_kept file r))
+asks_marked j (Write file offset buf) false Hard h r = ap (λ op. job_with op buf false Hard) (lent_op j buf _ h ∙ ap (λ f. machine.Write f offset) (file_kept file r))
+asks_marked j (Fsync file) true Free h r = ap (λ f. job_with (machine.Fsync f) [] true Free) (file_kept file r)
+asks_marked j (Fsync file) true Soft h r = ap (λ f. job_with (machine.Fsync f) [] true Soft) (file_kept file r)
+asks_marked j (Fsync file) true Hard h r = ap (λ f. job_with (machine.Fsync f) [] true Hard) (file_kept file r)
+asks_marked j (Fsync file) false Free h r = ap (λ f. job_with (machine.Fsync f) [] false Free) (file_kept file r)
+asks_marked j (Fsync file) false Soft h r = ap (λ f. job_with (machine.Fsync f) [] false Soft) (file_kept file r)
+asks_marked j (Fsync file) false Hard h r = ap (λ f. job_with (machine.Fsync f) [] false Hard) (file_kept file r)
+asks_marked j (Ftruncate file len) true Free h r = ap (λ f. job_with (machine.Ftruncate f len) [] true Free) (file_kept file r)
+asks_marked j (Ftruncate file len) true Soft h r = ap (λ f. job_with (machine.Ftruncate f len) [] true Soft) (file_kept file r)
+asks_marked j (Ftruncate file len) true Hard h r = ap (λ f. job_with (machine.Ftruncate f len) [] true Hard) (file_kept file r)
+asks_marked j (Ftruncate file len) false Free h r = ap (λ f. job_with (machine.Ftruncate f len) [] false Free) (file_kept file r)
+asks_marked j (Ftruncate file len) false Soft h r = ap (λ f. job_with (machine.Ftruncate f len) [] false Soft) (file_kept file r)
+asks_marked j (Ftruncate file len) false Hard h r = ap (λ f. job_with (machine.Ftruncate f len) [] false Hard) (file_kept file r)
+asks_marked j (Cancel target) true Free h r = refl
+asks_marked j (Cancel target) true Soft h r = refl
+asks_marked j (Cancel target) true Hard h r = refl
+asks_marked j (Cancel target) false Free h r = refl
+asks_marked j (Cancel target) false Soft h r = refl
+asks_marked j (Cancel target) false Hard h r = refl
+
+asks_one : (j : ℕ) (job : Job) → is_valid_job (asked job) ≡ true → IsInRange job.kind → job_of (small (offer_of j job).entry (offer_of j job).loan) ≡ asked job
+asks_one j job v r = asks_marked j job.kind job.drain job.link (valid_fits job v) r
+
+pub asks_all : (n : ℕ) (jobs : List Job) → AllValid jobs → AllInRange jobs → map job_of (all_taken (offers_from n jobs)) ≡ last_unlinked (all_asked jobs)
+asks_all n [] v r = refl
+asks_all n (job ∷ []) v r = ap (λ x. x ∷ []) (asks_marked n job.kind job.drain Free (valid_fits job v.0) r.0)
+asks_all n (job ∷ next ∷ jobs) v r = λ i. asks_one n job v.0 r.0 i ∷ asks_all (n + 1) (next ∷ jobs) v.1 r.1 i
+
+six_kind : (kind : JobKind) → is_six (op_asked kind) ≡ true
+six_kind Nop = refl
+six_kind (Read file offset buf) = refl
+six_kind (Write file offset buf) = refl
+six_kind (Fsync file) = refl
+six_kind (Ftruncate file len) = refl
+six_kind (Cancel target) = refl
+
+pub six_all : (n : ℕ) (jobs : List Job) → AllValid jobs → AllInRange jobs → AllByRecursion IsSix (all_taken (offers_from n jobs))
+six_all n [] v r = tt
+six_all n (job ∷ []) v r = (ap (λ x. is_six x.op) (asks_marked n job.kind job.drain Free (valid_fits job v.0) r.0) ∙ six_kind job.kind, tt)
+six_all n (job ∷ next ∷ jobs) v r = (ap (λ x. is_six x.op) (asks_one n job v.0 r.0) ∙ six_kind job.kind, six_all (n + 1) (next ∷ jobs) v.1 r.1)
+
+pub numbered_all : (n : ℕ) (jobs : List Job) → Numbered n (all_taken (offers_from n jobs))
+numbered_all n [] = tt
+numbered_all n (job ∷ []) = (refl, tt)
+numbered_all n (job ∷ next ∷ jobs) = (refl, numbered_all (n + 1) (next ∷ jobs))
+
+-- the loans
+
+no_other_number : (j : ℕ) → not (nat_eq j j) ≡ false
+no_other_number j = grind (arith, nat_tests)
+
+own_number : (j : ℕ) (kind : JobKind) → has_other_number j (loan_of j kind) ≡ false
+own_number j Nop = refl
+own_number j (Read file offset buf) = no_other_number j
+own_number j (Write file offset buf) = no_other_number j
+own_number j (Fsync file) = refl
+own_number j (Ftruncate file len) = refl
+own_number j (Cancel target) = refl
+
+-- what the outcomes of jobs that are numbered from n on tell
+abbrev pub Replies : (ℕ → Reply) → ℕ → List Job → Type 0
+Replies replies n jobs = (k : ℕ) → replies (n + k) ≡ reply_in (offers_from n jobs) k
+
+pub replies_next : (replies : ℕ → Reply) (n : ℕ) (job next : Job) (jobs : List Job) → Replies replies n (job ∷ next ∷ jobs) → Replies replies (n + 1) (next ∷ jobs)
+replies_next replies n job next jobs f = λ k. ap replies (omega arith) ∙ f (suc k)
+
+pub replies_here : (replies : ℕ → Reply) (n : ℕ) (reply : Reply) → replies (n + 0) ≡ reply → replies n ≡ reply
+replies_here replies n reply e = ap replies (omega arith) ∙ e
+
+pub replies_first : (jobs : List Job) → Replies (reply_in (offers_from 0 jobs)) 0 jobs
+replies_first jobs = λ k. ap (reply_in (offers_from 0 jobs)) (omega arith)
+
+lends_given : (n : ℕ) (kind : JobKind) → lends (reply_for kind) ≡ is_some (loan_of n kind)
+lends_given n Nop = refl
+lends_given n (Read file offset buf) = refl
+lends_given n (Write file offset buf) = refl
+lends_given n (Fsync file) = refl
+lends_given n (Ftruncate file len) = refl
+lends_given n (Cancel job) = refl
+
+pub own_all : (replies : ℕ → Reply) (lent : ℕ → Bool) → ((j : ℕ) → lent j ≡ lends (replies j)) → (n : ℕ) (jobs : List Job) → Replies replies n jobs → AllByRecursion (HasOwnLoan lent) (all_taken (offers_from n jobs))
+own_all replies lent e n [] f = tt
+own_all replies lent e n (job ∷ []) f = (record { lent = e n ∙ ap lends (replies_here replies n _ (f 0)) ∙ lends_given n job.kind; number = own_number n job.kind }, tt)
+own_all replies lent e n (job ∷ next ∷ jobs) f = (
+  record { lent = e n ∙ ap lends (replies_here replies n _ (f 0)) ∙ lends_given n job.kind; number = own_number n job.kind },
+  own_all replies lent e (n + 1) (next ∷ jobs) (replies_next replies n job next jobs f),
+)
+
+-- An entry lends what its job's outcome gives back, from the first byte on, and asks for a sync where the outcome tells no
+-- more than that it went well.
+
+abbrev pub is_lent : Reply → Option Loan → Bool
+is_lent reply None = not (lends reply)
+is_lent reply (Some l) = lends reply && nat_eq l.from 0
+
+abbrev pub is_sync : machine.Op → Bool
+is_sync (machine.Fsync file) = true
+is_sync machine.Nop = false
+is_sync (machine.Read file offset) = false
+is_sync (machine.Write file offset) = false
+is_sync (machine.Ftruncate file len) = false
+is_sync (machine.Cancel job) = false
+is_sync (machine.Refused code) = false
+
+abbrev pub is_asked : Reply → machine.Op → Bool
+is_asked Plain op = true
+is_asked Buffer op = true
+is_asked Success op = is_sync op
+
+abbrev pub asks : (ℕ → Reply) → Taken → Bool
+asks replies t = is_lent (replies t.entry.user_data) t.loan && is_asked (replies t.entry.user_data) (job_of t).op
+
+asks_kind : (n : ℕ) (kind : JobKind) → (is_lent (reply_for kind) (loan_of n kind) && is_asked (reply_for kind) (op_asked kind)) ≡ true
+asks_kind n Nop = refl
+asks_kind n (Read file offset buf) = refl
+asks_kind n (Write file offset buf) = refl
+asks_kind n (Fsync file) = refl
+asks_kind n (Ftruncate file len) = refl
+asks_kind n (Cancel job) = refl
+
+asks_entry : (n : ℕ) (kind : JobKind) (reply : Reply) (op : machine.Op) → reply ≡ reply_for kind → op ≡ op_asked kind → (is_lent reply (loan_of n kind) && is_asked reply op) ≡ true
+asks_entry n kind reply op e f = (λ i. is_lent (e i) (loan_of n kind) && is_asked (e i) (f i)) ∙ asks_kind n kind
+
+pub asks_list : (replies : ℕ → Reply) (n : ℕ) (jobs : List Job) → Replies replies n jobs → AllValid jobs → AllInRange jobs → AllByRecursion (λ t. asks replies t ≡ true) (all_taken (offers_from n jobs))
+asks_list replies n [] f v r = tt
+asks_list replies n (job ∷ []) f v r = (asks_entry n job.kind _ _ (replies_here replies n _ (f 0)) (ap (λ j. j.op) (asks_marked n job.kind job.drain Free (valid_fits job v.0) r.0)), tt)
+asks_list replies n (job ∷ next ∷ jobs) f v r = (
+  asks_entry n job.kind _ _ (replies_here replies n _ (f 0)) (ap (λ j. j.op) (asks_one n job v.0 r.0)),
+  asks_list replies (n + 1) (next ∷ jobs) (replies_next replies n job next jobs f) v.1 r.1,
+)

@@ -1,0 +1,246 @@
+-- What a round makes of the lists of its ring, and of its jobs.
+use Rattle.std.proofs.Common.{◌≡◌, ℕ, ◌⊎◌, inl, inr, Bool, true, false, ◌||◌, cond, min, nat_lt, Result, Ok, Err, is_ok, IfOk, OnOk, ◌+◌, List, [], ◌∷◌, ◌++◌, length, map, count_by, Option, Some, None, IfSome, refl, ap, sym, subst, ◌∙◌, append-nil, length-append, arith}
+use Rattle.std.specs.Bool.{OnTrue}
+use Rattle.std.specs.Result.{is_err}
+use Rattle.std.proofs.lemmas.Bool.Decides.{nat_tests}
+use Rattle.std.proofs.lemmas.List.Recursion.{is_count_by}
+use Rattle.uring_entry.specs.declared.events.Taken.{Taken}
+use Rattle.uring_entry.specs.declared.events.Completion.{Completion}
+use Rattle.uring_entry.specs.declared.events.LogEvent.{LogEvent}
+use Rattle.uring_entry.specs.Completions.{is_final}
+use Rattle.uring_model.specs.Moves.{Move, took, posted}
+use Rattle.uring_model.specs.Schedule as schedule
+use Rattle.uring_model.specs.declared.jobs.RunFault.{RunFault}
+use Rattle.ring_setup.specs.declared.parameters.Parameters.{Parameters}
+use Rattle.uring_ring.specs.Lists.{Lists, Moves, HasRoom, WhereTold, Becomes, all_published, free_of}
+use Rattle.partner_calls.specs.Calls.{IsCall, IsWholeTurn}
+use Rattle.uring_submit.specs.declared.error.SubmitError.{SubmitError}
+use Rattle.uring_submit.specs.declared.error.SubmitError.TheVariants as submit
+use Rattle.rent_engine.specs.declared.ops.EngineFault.{EngineFault}
+use Rattle.rent_engine.specs.declared.ops.EngineFault.TheVariants as faults
+use Rattle.rent_engine.specs.declared.ops.TurnReport.{TurnReport}
+use Rattle.rent_engine.specs.Ops.{Ops, Pumps}
+use Rattle.rent_engine.specs.Engines.{Reaped, ending, finals_in}
+use Rattle.rent_engine.specs.Turns.{Submitted, TurnEnds, Turned}
+use Rattle.rent_engine.specs.Turns as turns
+use Rattle.run_loop.specs.declared.slot.Slot.{Slot}
+use Rattle.run_loop.specs.Slots.{land_all, stranger_among, any_final}
+use Rattle.run_loop.specs.Flights.{all_polled, AreOperated, NoneResolved}
+use Rattle.run_loop.specs.Rounds.{pushed_more, IsCalm, Round, RoundEnds, engine_fault}
+use Rattle.run_loop.proofs.LandLemmas.{stranger-append}
+use Rattle.run_loop.proofs.FlightLemmas.{none_of, none_polled}
+use Rattle.run_loop.proofs.PumpLemmas.{all_completed}
+
+abbrev pub offered_to : Lists → List Taken → Lists
+offered_to a ts = all_published (pushed_more ts a)
+
+pub record Went (kept : Completion → Completion) (a : Lists) (ts : List Taken) (ms : List Move) (cs : List Completion) (last : Option Lists) : Type 0 where
+  pub after : Lists
+  pub told : last ≡ Some after
+  pub taken : (offered_to a ts).published ≡ took ms ++ after.published
+  pub pushed : after.pushed ≡ []
+  pub held : after.completion_capacity ≡ a.completion_capacity
+  pub capacity : after.capacity ≡ a.capacity
+  pub posts : a.completions ++ map kept (posted ms) ≡ cs ++ after.completions
+
+pub entered_at : (a : Lists) (ts : List Taken) (o0 o1 o2 : Option Lists) → o0 ≡ Some a → Becomes o0 (pushed_more ts) o1 → Becomes o1 all_published o2 → o2 ≡ Some (offered_to a ts)
+entered_at a ts o0 o1 o2 h0 p q =
+    let h1 : o1 ≡ Some (pushed_more ts a) = subst (λ o. Becomes o (pushed_more ts) o1) h0 p in
+    subst (λ o. Becomes o all_published o2) h1 q
+
+-- the partner entered, and all was pumped
+pumped_then : (kept : Completion → Completion) (a : Lists) (ts : List Taken) (ms : List Move) (cs : List Completion) (o3 o5 : Option Lists) → WhereTold (λ l m. Moves kept l (took ms) (posted ms) m) (Some (offered_to a ts)) o3 → WhereTold (Reaped cs) o3 o5 → Went kept a ts ms cs o5
+pumped_then kept a ts ms cs None o5 m r = absurd (m tt)
+pumped_then kept a ts ms cs (Some l) None m r = absurd (r tt)
+pumped_then kept a ts ms cs (Some l) (Some b) m r = record {
+  after = b;
+  told = refl;
+  taken = m.taken ∙ ap (λ x. took ms ++ x) (sym (r.published ∙ ap (λ x. l.published ++ x) m.pushed ∙ append-nil l.published));
+  pushed = r.pushed;
+  held = r.completion_capacity ∙ m.completion_capacity;
+  capacity = r.capacity ∙ m.capacity;
+  posts = sym m.posted ∙ r.completions;
+}
+
+-- the partner entered, and nothing else was done
+entered_then : (kept : Completion → Completion) (a : Lists) (ts : List Taken) (ms : List Move) (o3 : Option Lists) → WhereTold (λ l m. Moves kept l (took ms) (posted ms) m) (Some (offered_to a ts)) o3 → Went kept a ts ms [] o3
+entered_then kept a ts ms None m = absurd (m tt)
+entered_then kept a ts ms (Some l) m = record {
+  after = l;
+  told = refl;
+  taken = m.taken;
+  pushed = m.pushed;
+  held = m.completion_capacity;
+  capacity = m.capacity;
+  posts = sym m.posted;
+}
+
+-- how a turn ended: all that was reaped was taken, or the partner's error was handed on
+abbrev pub Ended : Bool → Ops → List Completion → Ops → Result TurnReport EngineFault → Type 0
+Ended true ops cs ops' result = Pumps ops cs ops' (ending result) × IfOk result (λ report. report.finals ≡ finals_in cs)
+Ended false ops cs ops' result = (e : SubmitError) × (result ≡ Err (turns.fault_of e))
+
+pub record Did (kept : Completion → Completion) (a : Lists) (ts : List Taken) (ms : List Move) (ops ops' : Ops) (result : Result TurnReport EngineFault) (entered : Bool) (last : Option Lists) (room waiting : ℕ) : Type 0 where
+  pub cs : List Completion
+  pub went : Went kept a ts ms cs last
+  pub ended : Ended entered ops cs ops' result
+  pub seen : OnTrue entered (IfSome last (λ l. (room ≡ free_of l) × (waiting ≡ length l.completions)))
+
+finals_of : (cs : List Completion) (taken : ℕ) (result : Result TurnReport EngineFault) → IfOk result (λ report. (report.taken ≡ taken) × (report.finals ≡ finals_in cs)) → IfOk result (λ report. report.finals ≡ finals_in cs)
+finals_of cs taken (Ok report) h = h.1
+finals_of cs taken (Err e) h = tt
+
+-- a full ring, as the starts saw it
+full_after : (a : Lists) (ts : List Taken) (room room' : ℕ) → room ≡ free_of a → room ≡ room' + length ts → room' ≡ 0 → free_of (pushed_more ts a) ≡ 0
+full_after a ts room room' e f z = let n : length (a.pushed ++ ts) ≡ length a.pushed + length ts = length-append a.pushed ts in omega (arith, e, f, z, n)
+
+module _ {W : Type 0} (mach : schedule.Machine W) {P R : Type 0} (log : P → Option (List LogEvent)) (state : P → Option (schedule.State W)) (lists : R → Option Lists) (kept : Completion → Completion) (moved : R → List Taken → List Completion → R → Type 0) (flags_word : R → ℕ) (used : R → List Taken → List Completion → R → Type 0) (room waiting : R → ℕ) where
+  did_by : (answer : Result ℕ SubmitError) (left to : R) (ops ops' : Ops) (result : Result TurnReport EngineFault) (a : Lists) (ts : List Taken) (ms : List Move) → WhereTold (λ l m. Moves kept l (took ms) (posted ms) m) (Some (offered_to a ts)) (lists left) → TurnEnds mach log state lists moved flags_word used room waiting answer left to ops ops' result
+      → Did kept a ts ms ops ops' result (is_ok answer) (lists to) (room to) (waiting to)
+  did_by (Ok taken) left to ops ops' result a ts ms m e = record {
+    cs = e.0.completions;
+    went = pumped_then kept a ts ms e.0.completions (lists left) (lists to) m e.0.told;
+    ended = (e.0.completed, finals_of e.0.completions taken result e.1);
+    seen = e.0.seen;
+  }
+  did_by (Err error) left to ops ops' result a ts ms m e = record {
+    cs = [];
+    went = subst (λ r. Went kept a ts ms [] (lists r)) (sym e.0) (entered_then kept a ts ms (lists left) m);
+    ended = (error, e.2);
+    seen = tt;
+  }
+
+  module _ (moved_told : (a b : R) (ts : List Taken) (cs : List Completion) → moved a ts cs b → WhereTold (λ l m. Moves kept l ts cs m) (lists a) (lists b)) (fits : (r : R) → IfSome (lists r) HasRoom)
+      (params : Parameters) (old new : P) (from mid to : R) (ops ops' : Ops) (result : Result TurnReport EngineFault) (t : Turned mach log state lists moved flags_word used room waiting params old new mid to ops ops' result)
+      (a : Lists) (ts : List Taken) (told : lists from ≡ Some a) (begun : Becomes (lists from) (pushed_more ts) (lists mid)) where
+    at_is : lists t.submitted.shown ≡ Some (offered_to a ts)
+    at_is = entered_at a ts (lists from) (lists mid) (lists t.submitted.shown) told begun t.submitted.told
+
+    abbrev moves : List Move
+    moves = t.submitted.enters.moves
+
+    abbrev pub entered : Bool
+    entered = is_ok t.answer
+
+    pub posts : List Completion
+    posts = map kept (posted moves)
+
+    pub turn_did : Did kept a ts moves ops ops' result entered (lists to) (room to) (waiting to)
+    turn_did =
+        did_by t.answer t.left to ops ops' result a ts moves
+        (subst (λ o. WhereTold (λ l m. Moves kept l (took moves) (posted moves) m) o (lists t.left)) at_is (moved_told t.submitted.shown t.left (took moves) (posted moves) t.submitted.enters.made.sides))
+        t.ends
+
+    whole_by : (answer : Result ℕ SubmitError) (o : Option Lists) → OnOk answer (IsWholeTurn mach (state old) o moves) → OnTrue (is_ok answer) (IsWholeTurn mach (state old) o moves)
+    whole_by (Ok taken) o h = h
+    whole_by (Err e) o h = tt
+
+    pub round_of : (last : R) → lists last ≡ lists to → IsCalm a (room from) → (todo todo' : List Taken) → todo ≡ ts ++ todo' → room from ≡ room mid + length ts → (todo' ≡ []) ⊎ (room mid ≡ 0) → (started : ℕ) (slots slots' : List Slot) (answer : Result Bool RunFault)
+        → RoundEnds started slots (map kept (posted moves)) slots' entered answer → Round mach log state lists kept old new from last todo todo' started slots slots' answer
+    round_of last same calm todo todo' split places full started slots slots' answer ends = record {
+      ts = ts;
+      ms = moves;
+      entered = entered;
+      before = a;
+      at = offered_to a ts;
+      after = turn_did.went.after;
+      told_before = told;
+      told_after = same ∙ turn_did.went.told;
+      offered = split;
+      full = elim full [ inl e ↦ inl e | inr z ↦ inr (full_after a ts (room from) (room mid) calm.seen places z) ];
+      published = refl;
+      fits = subst (λ o. IfSome o HasRoom) at_is (fits t.submitted.shown);
+      logs = t.submitted.enters.made.logs;
+      states = t.submitted.enters.made.states;
+      asked = t.submitted.published;
+      enough = let n : t.submitted.published ≡ length (offered_to a ts).published = subst (λ o. IfSome o (λ l. t.submitted.published ≡ length l.published)) at_is t.submitted.counted in omega (arith, n);
+      call = subst (λ o. IsCall entered t.submitted.published o moves) at_is t.submitted.enters.call;
+      whole = whole_by t.answer (Some (offered_to a ts)) (subst (λ o. OnOk t.answer (IsWholeTurn mach (state old) o moves)) at_is t.submitted.enters.whole);
+      taken = turn_did.went.taken;
+      pushed = turn_did.went.pushed;
+      capacity = turn_did.went.capacity;
+      completion_capacity = turn_did.went.held;
+      ends = ends;
+    }
+
+-- how a round ends, by how its turn did
+
+pub posts_are : (kept : Completion → Completion) (a : Lists) (ms : List Move) (cs ds : List Completion) → a.completions ≡ [] → a.completions ++ map kept (posted ms) ≡ cs ++ ds → map kept (posted ms) ≡ cs ++ ds
+posts_are kept a ms cs ds e h = ap (λ l. l ++ map kept (posted ms)) (sym e) ∙ h
+
+pub fault_by : (begun : ℕ) (slots slots' : List Slot) (jobs : List ℕ) (ops ops' : Ops) (cs ds posts : List Completion) (entered : Bool) (fault : EngineFault) → AreOperated ops begun slots jobs → NoneResolved ops → posts ≡ cs ++ ds → Ended entered ops cs ops' (Err fault)
+    → RoundEnds begun slots posts slots' entered (Err (engine_fault fault))
+fault_by begun slots slots' jobs ops ops' cs ds posts true (faults.Stranger u) a n e h =
+    (refl, ap (stranger_among begun slots) e ∙ stranger-append begun slots cs ds u (ap (λ s. stranger_among begun s cs) (sym (none_polled ops slots n)) ∙ all_completed ops begun slots jobs a cs ops' (Err (faults.Stranger u)) h.0))
+fault_by begun slots slots' jobs ops ops' cs ds posts true (faults.Fault errno) a n e h = tt
+fault_by begun slots slots' jobs ops ops' cs ds posts true faults.NoMemory a n e h = tt
+fault_by begun slots slots' jobs ops ops' cs ds posts false fault a n e (submit.Exists, h) = let same : fault ≡ faults.NoMemory = cc in subst (λ f. RoundEnds begun slots posts slots' false (Err (engine_fault f))) (sym same) tt
+fault_by begun slots slots' jobs ops ops' cs ds posts false fault a n e (submit.NotRegistered, h) = let same : fault ≡ faults.NoMemory = cc in subst (λ f. RoundEnds begun slots posts slots' false (Err (engine_fault f))) (sym same) tt
+fault_by begun slots slots' jobs ops ops' cs ds posts false fault a n e (submit.Fault errno, h) = let same : fault ≡ faults.Fault errno = cc in subst (λ f. RoundEnds begun slots posts slots' false (Err (engine_fault f))) (sym same) tt
+fault_by begun slots slots' jobs ops ops' cs ds posts false fault a n e (submit.NoMemory, h) = let same : fault ≡ faults.NoMemory = cc in subst (λ f. RoundEnds begun slots posts slots' false (Err (engine_fault f))) (sym same) tt
+
+-- whether a completion was final
+abbrev finals : List Completion → ℕ
+finals [] = 0
+finals (c ∷ cs) = cond (is_final c.flags) (1 + finals cs) (finals cs)
+
+some_finals : (cs : List Completion) → any_final cs ≡ nat_lt 0 (finals cs)
+some_finals [] = grind (arith, nat_tests)
+some_finals (c ∷ cs) = more (is_final c.flags) (any_final cs) (finals cs) (some_finals cs)
+  where
+    more : (b any : Bool) (n : ℕ) → any ≡ nat_lt 0 n → (b || any) ≡ nat_lt 0 (cond b (1 + n) n)
+    more true any n e = grind (arith, nat_tests)
+    more false any n e = e
+
+pub any_by_count : (cs : List Completion) (n : ℕ) → n ≡ finals_in cs → any_final cs ≡ nat_lt 0 n
+any_by_count cs n e =
+    let k : finals cs ≡ count_by (λ c. is_final c.flags) cs = is_count_by finals (λ c. is_final c.flags) refl (λ x xs. refl) cs in
+    some_finals cs ∙ capped (finals cs) n (e ∙ ap (λ m. min m 4294967295) (sym k))
+  where
+    capped : (k n : ℕ) → n ≡ min k 4294967295 → nat_lt 0 k ≡ nat_lt 0 n
+    capped k n e = grind (arith, nat_tests)
+
+-- a turn that succeeded
+
+ended_ok : (entered : Bool) (ops : Ops) (cs : List Completion) (ops' : Ops) (report : TurnReport) → Ended entered ops cs ops' (Ok report) → (entered ≡ true) × Pumps ops cs ops' (Ok tt) × (report.finals ≡ finals_in cs)
+ended_ok true ops cs ops' report h = (refl, h.0, h.1)
+ended_ok false ops cs ops' report h = let e : Ok report ≡ Err (turns.fault_of h.0) = h.1 in cc
+
+-- all that was posted was taken, nothing of it strange; and the user sees how much fits
+pub record Landed (begun : ℕ) (slots : List Slot) (jobs : List ℕ) (posts : List Completion) (ops' : Ops) (report : TurnReport) (entered : Bool) (after : Lists) (room : ℕ) : Type 0 where
+  pub whole : entered ≡ true
+  pub operated : AreOperated ops' begun slots jobs
+  pub due : stranger_among begun slots posts ≡ None
+  pub lands : all_polled ops' slots ≡ land_all slots posts
+  pub any : any_final posts ≡ nat_lt 0 report.finals
+  pub none : after.completions ≡ []
+  pub seen : room ≡ free_of after
+
+pub landed_of : (kept : Completion → Completion) (a : Lists) (ts : List Taken) (ms : List Move) (ops ops' : Ops) (report : TurnReport) (entered : Bool) (last : Option Lists) (room waiting : ℕ) → (d : Did kept a ts ms ops ops' (Ok report) entered last room waiting) → a.completions ≡ [] → waiting ≡ 0
+    → (begun : ℕ) (slots : List Slot) (jobs : List ℕ) → AreOperated ops begun slots jobs → NoneResolved ops → Landed begun slots jobs (map kept (posted ms)) ops' report entered d.went.after room
+landed_of kept a ts ms ops ops' report entered last room waiting d first none begun slots jobs o n =
+    let e = ended_ok entered ops d.cs ops' report d.ended in
+    let s : IfSome last (λ l. (room ≡ free_of l) × (waiting ≡ length l.completions)) = subst (λ b. OnTrue b (IfSome last (λ l. (room ≡ free_of l) × (waiting ≡ length l.completions)))) e.0 d.seen in
+    let here : (room ≡ free_of d.went.after) × (waiting ≡ length d.went.after.completions) = subst (λ q. IfSome q (λ l. (room ≡ free_of l) × (waiting ≡ length l.completions))) d.went.told s in
+    let left : d.went.after.completions ≡ [] = none_of d.went.after.completions (sym here.1 ∙ none) in
+    let same : map kept (posted ms) ≡ d.cs = posts_are kept a ms d.cs d.went.after.completions first d.went.posts ∙ ap (λ l. d.cs ++ l) left ∙ append-nil d.cs in
+    let l = all_completed ops begun slots jobs o d.cs ops' (Ok tt) e.1 in
+    let start = none_polled ops slots n in
+    record {
+      whole = e.0;
+      operated = l.1;
+      due = (λ i. stranger_among begun (sym start i) (same i)) ∙ l.0;
+      lands = l.2 ∙ (λ i. land_all (start i) (sym same i));
+      any = ap any_final same ∙ any_by_count d.cs report.finals e.2;
+      none = left;
+      seen = here.0;
+    }
+
+pub polled_ends : (begun : ℕ) (slots : List Slot) (jobs : List ℕ) (posts : List Completion) (ops' : Ops) (report : TurnReport) (entered : Bool) (after : Lists) (room : ℕ) → Landed begun slots jobs posts ops' report entered after room
+    → (begun' : ℕ) (first slots' : List Slot) → begun' ≡ begun → first ≡ slots → slots' ≡ all_polled ops' slots → RoundEnds begun' first posts slots' entered (Ok (nat_lt 0 report.finals))
+polled_ends begun slots jobs posts ops' report whole after room l begun' first slots' e f g =
+    (l.whole, (λ i. stranger_among (e i) (f i) posts) ∙ l.due, g ∙ l.lands ∙ ap (λ s. land_all s posts) (sym f), sym l.any)
+
+pub once_ok : {T E : Type 0} (r : Result T E) (P : Type 0) → is_err r ≡ false → OnOk r P → P
+once_ok (Ok x) P e h = h
+once_ok (Err x) P e h = let bad : true ≡ false = e in cc

@@ -1,0 +1,238 @@
+-- What a run tells, from what its rounds did.
+use Rattle.std.proofs.Common.{◌≡◌, ℕ, ◌*◌, ◌<◌, ◌≤◌, Bool, true, false, List, [], ◌∷◌, ◌++◌, length, map, replicate, drop, All, IsSome, Result, Ok, Err, Option, Some, None, IfOk, IfErr, IfSome, refl, ap, sym, subst, ◌∙◌, arith}
+use Rattle.std.specs.List.{AllByRecursion}
+use Rattle.std.proofs.lemmas.List.Elements.{All-from_recursion, recursion_from_All}
+use Rattle.std.proofs.Math.Seq.{drop-append_seam}
+use Rattle.uring_entry.specs.declared.events.Event.{Event}
+use Rattle.uring_entry.specs.declared.events.LogEvent.{LogEvent}
+use Rattle.uring_entry.specs.declared.events.Taken.{Taken}
+use Rattle.uring_model.specs.declared.jobs.Job.{Job}
+use Rattle.uring_model.specs.declared.jobs.Outcome.{Outcome}
+use Rattle.uring_model.specs.declared.jobs.Report.{Report}
+use Rattle.uring_model.specs.declared.jobs.RunFault.{RunFault}
+use Rattle.uring_model.specs.declared.jobs.RunFault.TheVariants as faults
+use Rattle.uring_model.specs.Jobs.{asked, all_asked}
+use Rattle.std.proofs.lemmas.List.{length-map}
+use Rattle.uring_model.specs.Replay.{last_unlinked, IsBusy, IsWhole, table}
+use Rattle.uring_model.specs.Moves.{Move, took, posted, event_of, journal_of, log_of, IsLogged}
+use Rattle.uring_model.specs.Partner.{job_of, idle}
+use Rattle.uring_model.specs.Partner as filed
+use Rattle.uring_model.specs.Machine.{Files}
+use Rattle.uring_model.specs.Schedule as schedule
+use Rattle.uring_model.specs.Viewed.{seen, IsIdle}
+use Rattle.uring_model.specs.World.{IsSix}
+use Rattle.uring_model.specs.Progress.{turns}
+use Rattle.uring_model.specs.Explained.{Numbered, record_all, AllFresh, Explained}
+use Rattle.uring_model.specs.Honest.{HasOwnLoan}
+use Rattle.uring_model.specs.Strange.{nothing_seen, first_strange}
+use Rattle.run_loop.specs.declared.entries.Offer.{Offer}
+use Rattle.run_loop.specs.declared.slot.Slot.{Slot}
+use Rattle.run_loop.specs.declared.slot.Slot.TheVariants.{Done}
+use Rattle.run_loop.specs.Driven.{Driven, IsGivenUp}
+use Rattle.run_loop.specs.declared.slot.Reply.{Reply}
+use Rattle.run_loop.specs.Entries.{offers_from, all_taken, reply_in, lends_in, lends_at, AllValid, AllInRange}
+use Rattle.run_loop.specs.Laws.{ModelLaws}
+use Rattle.run_loop.specs.Memory.{Explains, outcomes_told}
+use Rattle.run_loop.specs.Rounds.{is_stall, is_stranger_fault}
+use Rattle.run_loop.specs.Runs.{Ran, RunSays, outcomes_from, IsAnswered, IsFaulted}
+use Rattle.run_loop.specs.Slots.{count_open, slots_from}
+use Rattle.run_loop.proofs.EntryLemmas.{offers_count}
+use Rattle.run_loop.proofs.Asks.{asks_all, six_all, numbered_all, own_all, replies_first, asks, asks_list}
+use Rattle.run_loop.proofs.Prompt.{served_some, six_front}
+use Rattle.run_loop.proofs.Results.{results_from, results_first, record_results, steps_final, all_set, outcomes_of_slots, answers, answered, told_outcomes}
+
+-- the run by its jobs
+
+abbrev ran_of : {W : Type 0} (mach : schedule.Machine W) (view : W → Files) (Plain : W → Type 0) {P : Type 0} (log : P → Option (List LogEvent)) (state : P → Option (schedule.State W)) (old new : P) (jobs : List Job) (capacity idle : ℕ) → Driven mach log state old new (offers_from 0 jobs) capacity idle → Ran mach log state old new jobs capacity idle
+ran_of mach view Plain log state old new jobs capacity idle d = record {
+  moves = d.moves;
+  ahead = d.ahead;
+  logs = d.logs;
+  states = d.states;
+  entries = d.entries;
+  busy = subst (λ n. IsBusy capacity n 0 (journal_of (log_of d.moves))) (offers_count 0 jobs) d.busy;
+  within = d.within;
+  few = subst (λ n. turns d.moves ≤ idle * n) (offers_count 0 jobs) d.few;
+}
+
+-- nothing was done
+pub not_driven : {W : Type 0} (mach : schedule.Machine W) (view : W → Files) (Plain : W → Type 0) {P : Type 0} (laws : ModelLaws mach view Plain) (log : P → Option (List LogEvent)) (state : P → Option (schedule.State W)) (p : P) (jobs : List Job) (capacity idle : ℕ) → Driven mach log state p p (offers_from 0 jobs) capacity idle
+not_driven mach view Plain laws log state p jobs capacity idle = record { moves = []; ahead = all_taken (offers_from 0 jobs); logs = laws.stay.logs (log p); states = laws.world.stay (state p); entries = refl; busy = tt; within = tt; few = omega arith }
+
+faulted_of : (jobs : List Job) (idle : ℕ) (log : List LogEvent) (e : RunFault) → IsGivenUp (offers_from 0 jobs) idle log e → IsFaulted jobs idle log e
+faulted_of jobs idle log (faults.Stranger u) h = h
+faulted_of jobs idle log faults.Stalled h = record { quiet = h.quiet; job = h.job; inside = subst (λ n. h.job < n) (offers_count 0 jobs) h.inside; unanswered = h.unanswered }
+faulted_of jobs idle log faults.PartnerFault h = tt
+faulted_of jobs idle log faults.NoMemory h = tt
+faulted_of jobs idle log faults.BadSize h = h
+faulted_of jobs idle log (faults.BadJob n) h = h
+
+-- over an idle partner that tells its files
+
+abbrev replies_at : List Job → ℕ → Reply
+replies_at jobs = reply_in (offers_from 0 jobs)
+
+pub record FromIdle (jobs : List Job) (a b : filed.PartnerState) (ms : List Move) : Type 0 where
+  pub explained : Explained (all_asked jobs) a.files a.choices ms b
+  pub steps : filed.Steps false (idle a.files a.choices) ms b
+  pub honest : first_strange (lends_at jobs) nothing_seen (log_of ms) ≡ None
+  pub told : AllByRecursion (λ c. answers (replies_at jobs) c ≡ true) (posted ms)
+  pub restful : IsWhole explained.state → filed.IsIdle b
+
+-- what holds of a list's members holds of those of its front
+front_of : {A : Type 0} (P : A → Type 0) (xs ys : List A) → AllByRecursion P (xs ++ ys) → AllByRecursion P xs
+front_of P [] ys h = tt
+front_of P (x ∷ xs) ys h = (h.0, front_of P xs ys h.1)
+
+pub from_idle : {W : Type 0} (mach : schedule.Machine W) (view : W → Files) (Plain : W → Type 0) {P : Type 0} (laws : ModelLaws mach view Plain) (log : P → Option (List LogEvent)) (state : P → Option (schedule.State W)) (old new : P) (jobs : List Job) (capacity bound : ℕ) (d : Driven mach log state old new (offers_from 0 jobs) capacity bound) → AllValid jobs → AllInRange jobs → (a : schedule.State W) → state old ≡ Some a → IsIdle Plain a
+    → (b : schedule.State W) × (state new ≡ Some b) × FromIdle jobs (seen view a) (seen view b) d.moves × Plain b.files
+from_idle mach view Plain laws log state old new jobs capacity bound d valid range a told rests =
+    let served = served_some mach a d.moves (state new) (subst (λ o. schedule.IsServed mach o d.moves (state new)) told d.states) in
+    let b = served.0 in
+    let same_jobs : map job_of (took d.moves ++ d.ahead) ≡ last_unlinked (all_asked jobs) = ap (map job_of) d.entries ∙ asks_all 0 jobs valid range in
+    let numbered : Numbered 0 (took d.moves ++ d.ahead) = subst (Numbered 0) (sym d.entries) (numbered_all 0 jobs) in
+    let six : AllByRecursion IsSix (took d.moves) = six_front (took d.moves) d.ahead (subst (AllByRecursion IsSix) (sym d.entries) (six_all 0 jobs valid range)) in
+    let files = laws.world.steps_seen true a b d.moves (record { world = rests.plain; pending = subst (AllByRecursion (λ i. IsSix i.taken)) (sym rests.pending) tt }) six served.2 in
+    let calls : filed.IsServed (Some (seen view a)) d.moves (Some (seen view b)) = files.0 in
+    let resting : filed.IsIdle (seen view a) = record { pending = rests.pending; tail = rests.tail } in
+    let steps = laws.idle_moves (seen view a) (seen view b) d.moves resting calls in
+    let own : AllByRecursion (HasOwnLoan (lends_at jobs)) (took d.moves ++ d.ahead) = subst (AllByRecursion (HasOwnLoan (lends_at jobs))) (sym d.entries) (own_all (replies_at jobs) (lends_at jobs) (λ j. refl) 0 jobs (replies_first jobs)) in
+    let asked : AllByRecursion (λ t. asks (replies_at jobs) t ≡ true) (took d.moves ++ d.ahead) = subst (AllByRecursion (λ t. asks (replies_at jobs) t ≡ true)) (sym d.entries) (asks_list (replies_at jobs) 0 jobs (replies_first jobs) valid range) in
+    let explained = laws.explained (all_asked jobs) d.moves d.ahead (seen view a) (seen view b) resting same_jobs numbered calls in (
+      b,
+      served.1,
+      record {
+        explained = explained;
+        steps = steps;
+        honest = laws.honest (lends_at jobs) (all_asked jobs) (view a.files) a.choices d.moves d.ahead (seen view b) same_jobs numbered steps (All-from_recursion (HasOwnLoan (lends_at jobs)) (took d.moves) (front_of (HasOwnLoan (lends_at jobs)) (took d.moves) d.ahead own)) d.within;
+        told =
+            recursion_from_All (λ c. answers (replies_at jobs) c ≡ true) (posted d.moves)
+            (laws.answers (asks (replies_at jobs)) (answers (replies_at jobs)) (view a.files) a.choices d.moves (seen view b) (answered (replies_at jobs)) steps
+            (All-from_recursion (λ t. asks (replies_at jobs) t ≡ true) (took d.moves) (front_of (λ t. asks (replies_at jobs) t ≡ true) (took d.moves) d.ahead asked)));
+        restful = λ w. laws.restful (all_asked jobs) (view a.files) a.choices d.moves d.ahead (seen view b) explained.state same_jobs numbered steps explained.replays w;
+      },
+      files.1.world,
+    )
+
+-- a run that ends with a fault
+
+stranger_not : (e : RunFault) (jobs : List Job) (bound : ℕ) (log : List LogEvent) → IsGivenUp (offers_from 0 jobs) bound log e → first_strange (lends_at jobs) nothing_seen log ≡ None → is_stranger_fault e ≡ false
+stranger_not (faults.Stranger u) jobs bound log g h = let bad : None ≡ Some u = sym h ∙ g in cc
+stranger_not faults.Stalled jobs bound log g h = refl
+stranger_not faults.PartnerFault jobs bound log g h = refl
+stranger_not faults.NoMemory jobs bound log g h = refl
+stranger_not faults.BadSize jobs bound log g h = refl
+stranger_not (faults.BadJob n) jobs bound log g h = refl
+
+some_told : {A : Type 0} (o : Option A) (a : A) (P : A → Type 0) → IfSome o P → o ≡ Some a → P a
+some_told o a P h e = subst (λ x. IfSome x P) e h
+
+fault_explains : {W : Type 0} (view : W → Files) (Plain : W → Type 0) (jobs : List Job) (a b : schedule.State W) (ms : List Move) (e : RunFault) → FromIdle jobs (seen view a) (seen view b) ms → is_stranger_fault e ≡ false → is_stall e ≡ false → Explains view Plain (all_asked jobs) a ms b (Err e)
+fault_explains view Plain jobs a b ms e f honest prompt = record {
+  end = f.explained.state;
+  replays = f.explained.replays;
+  chosen = f.explained.chosen;
+  files = f.explained.files_at_end;
+  report = tt;
+  fault = (honest, prompt);
+}
+
+pub says_fault : {W : Type 0} (mach : schedule.Machine W) (view : W → Files) (Plain : W → Type 0) {P : Type 0} (laws : ModelLaws mach view Plain) (log : P → Option (List LogEvent)) (state : P → Option (schedule.State W)) (old new : P) (jobs : List Job) (capacity bound : ℕ) (e : RunFault) → AllValid jobs → AllInRange jobs
+    → (d : Driven mach log state old new (offers_from 0 jobs) capacity bound) → IsGivenUp (offers_from 0 jobs) bound (log_of d.moves) e → IfSome (state old) (λ a. IsIdle Plain a → is_stall e ≡ false)
+    → RunSays mach view Plain log state old new jobs capacity bound (Err e)
+says_fault mach view Plain laws log state old new jobs capacity bound e valid range d given stall = record {
+  ran = ran_of mach view Plain log state old new jobs capacity bound d;
+  report = tt;
+  fault = faulted_of jobs bound (log_of d.moves) e given;
+  memory = λ a told rests.
+      let f = from_idle mach view Plain laws log state old new jobs capacity bound d valid range a told rests in
+      (f.0, f.1, fault_explains view Plain jobs a f.0 d.moves e f.2 (stranger_not e jobs bound (log_of d.moves) given f.2.honest) (some_told (state old) a (λ a. IsIdle Plain a → is_stall e ≡ false) stall told rests));
+}
+
+-- a run that ends well
+
+whole_results : (jobs : List Job) (a b : filed.PartnerState) (ms : List Move) → (f : FromIdle jobs a b ms) → table f.explained.state ≡ results_from 0 (offers_from 0 jobs) (posted ms)
+whole_results jobs a b ms f =
+    let n : length (all_asked jobs) ≡ length (offers_from 0 jobs) = length-map jobs asked ∙ sym (offers_count 0 jobs) in
+    let first : replicate (length (all_asked jobs)) None ≡ results_from 0 (offers_from 0 jobs) [] = ap (λ k. replicate k None) n ∙ sym (results_first 0 (offers_from 0 jobs)) in
+    f.explained.outcomes
+    ∙ ap (λ t. record_all t (posted ms)) first
+    ∙ record_results (offers_from 0 jobs) [] (posted ms) (steps_final false (idle a.files a.choices) b ms f.steps) (subst (λ t. AllFresh t (posted ms)) first f.explained.fresh)
+
+pub answered_by : (jobs : List Job) (ms : List Move) (os : List Outcome) → first_strange (lends_at jobs) nothing_seen (log_of ms) ≡ None → map (λ o. Done o) os ≡ slots_from 0 (offers_from 0 jobs) (posted ms) → IsAnswered jobs (log_of ms) os
+answered_by jobs ms os honest slots = record {
+  expected = honest;
+  outcomes = outcomes_of_slots jobs ms os slots;
+}
+
+whole_explains : {W : Type 0} (mach : schedule.Machine W) (view : W → Files) (Plain : W → Type 0) (laws : ModelLaws mach view Plain) (jobs : List Job) (a b : schedule.State W) (ms : List Move) (report : Report) → FromIdle jobs (seen view a) (seen view b) ms → Plain b.files → count_open (slots_from 0 (offers_from 0 jobs) (posted ms)) ≡ 0 → map (λ o. Some o) report.outcomes.items ≡ outcomes_from 0 jobs (log_of ms) → turns ms ≤ length jobs
+    → Explains view Plain (all_asked jobs) a ms b (Ok report)
+whole_explains mach view Plain laws jobs a b ms report f plain none answers few =
+    let results = whole_results jobs (seen view a) (seen view b) ms f in
+    let set : All IsSome (table f.explained.state) = subst (All IsSome) (sym results) (All-from_recursion IsSome (results_from 0 (offers_from 0 jobs) (posted ms)) (all_set 0 (offers_from 0 jobs) (posted ms) none)) in
+    let whole = laws.whole f.explained.state set in
+    record {
+      end = f.explained.state;
+      replays = f.explained.replays;
+      chosen = f.explained.chosen;
+      files = f.explained.files_at_end;
+      report = record {
+        whole = whole;
+        outcomes = answers ∙ sym (told_outcomes (replies_at jobs) 0 jobs ms (replies_first jobs) f.told) ∙ ap (outcomes_told (all_asked jobs)) (sym results);
+        idle = let r = f.restful whole in record { pending = r.pending; tail = r.tail; plain = plain };
+        few = subst (λ n. turns ms ≤ n) (sym (length-map jobs asked)) few;
+      };
+      fault = tt;
+    }
+
+journal_gain : (o p : Option (List LogEvent)) (ms : List Move) (start : ℕ) (journal : List Event) → IsLogged o ms p → IfSome o (λ l. start ≡ length l) → IfSome p (λ l. journal ≡ map event_of (drop start l)) → IfSome o (λ _. journal ≡ journal_of (log_of ms))
+journal_gain None p ms start journal h s j = tt
+journal_gain (Some l) p ms start journal h s j =
+    let told : journal ≡ map event_of (drop start (l ++ log_of ms)) = subst (λ x. IfSome x (λ l. journal ≡ map event_of (drop start l))) h j in
+    told ∙ ap (λ n. map event_of (drop n (l ++ log_of ms))) s ∙ ap (map event_of) (drop-append_seam l (log_of ms))
+
+pub says_report : {W : Type 0} (mach : schedule.Machine W) (view : W → Files) (Plain : W → Type 0) {P : Type 0} (laws : ModelLaws mach view Plain) (log : P → Option (List LogEvent)) (state : P → Option (schedule.State W)) (old new : P) (jobs : List Job) (capacity bound : ℕ) (report : Report) (start : ℕ) → AllValid jobs → AllInRange jobs
+    → (d : Driven mach log state old new (offers_from 0 jobs) capacity bound) → first_strange (lends_in (offers_from 0 jobs)) nothing_seen (log_of d.moves) ≡ None
+    → count_open (slots_from 0 (offers_from 0 jobs) (posted d.moves)) ≡ 0 → map (λ o. Done o) report.outcomes.items ≡ slots_from 0 (offers_from 0 jobs) (posted d.moves)
+    → IfSome (log old) (λ l. start ≡ length l) → IfSome (log new) (λ l. report.journal.items ≡ map event_of (drop start l))
+    → ((a : schedule.State W) → state old ≡ Some a → IsIdle Plain a → turns d.moves ≤ length (offers_from 0 jobs))
+    → RunSays mach view Plain log state old new jobs capacity bound (Ok report)
+says_report mach view Plain laws log state old new jobs capacity bound report start valid range d honest none slots at journal few =
+    let answered = answered_by jobs d.moves report.outcomes.items honest slots in
+    record {
+      ran = ran_of mach view Plain log state old new jobs capacity bound d;
+      report = record { answered = answered; journal = journal_gain (log old) (log new) d.moves start report.journal.items d.logs at journal };
+      fault = tt;
+      memory = λ a told rests.
+          let f = from_idle mach view Plain laws log state old new jobs capacity bound d valid range a told rests in
+          (f.0, f.1, whole_explains mach view Plain laws jobs a f.0 d.moves report f.2 f.3 none answered.outcomes (subst (λ n. turns d.moves ≤ n) (offers_count 0 jobs) (few a told rests)));
+    }
+
+pub not_stalled : {W : Type 0} (Plain : W → Type 0) (o : Option (schedule.State W)) → IfSome o (λ a. IsIdle Plain a → is_stall faults.NoMemory ≡ false)
+not_stalled Plain None = tt
+not_stalled Plain (Some a) = λ h. refl
+
+told_either : {W : Type 0} (mach : schedule.Machine W) (view : W → Files) (Plain : W → Type 0) {P : Type 0} (laws : ModelLaws mach view Plain) (log : P → Option (List LogEvent)) (state : P → Option (schedule.State W)) (old new : P) (jobs : List Job) (capacity bound : ℕ) (start : ℕ) (slots : List Slot) (r : Result Report RunFault) → AllValid jobs → AllInRange jobs
+    → (d : Driven mach log state old new (offers_from 0 jobs) capacity bound) → count_open slots ≡ 0 → slots ≡ slots_from 0 (offers_from 0 jobs) (posted d.moves) → first_strange (lends_in (offers_from 0 jobs)) nothing_seen (log_of d.moves) ≡ None → ((a : schedule.State W) → state old ≡ Some a → IsIdle Plain a → turns d.moves ≤ length (offers_from 0 jobs))
+    → IfOk r (λ report. map (λ o. Done o) report.outcomes.items ≡ slots) → IfOk r (λ report. IfSome (log new) (λ l. report.journal.items ≡ map event_of (drop start l))) → IfErr r (λ e. e ≡ faults.NoMemory) → IfSome (log old) (λ l. start ≡ length l)
+    → RunSays mach view Plain log state old new jobs capacity bound r
+told_either mach view Plain laws log state old new jobs capacity bound start slots (Ok report) valid range d none told honest few outcomes journal err at =
+    says_report mach view Plain laws log state old new jobs capacity bound report start valid range d honest (ap count_open (sym told) ∙ none) (outcomes ∙ told) at journal few
+told_either mach view Plain laws log state old new jobs capacity bound start slots (Err e) valid range d none told honest few outcomes journal err at =
+    subst (λ e. RunSays mach view Plain log state old new jobs capacity bound (Err e)) (sym err) (says_fault mach view Plain laws log state old new jobs capacity bound faults.NoMemory valid range d tt (not_stalled Plain (state old)))
+
+-- what a run tells by its report, or by want of memory for it
+pub says_either : {W : Type 0} (mach : schedule.Machine W) (view : W → Files) (Plain : W → Type 0) {P : Type 0} (laws : ModelLaws mach view Plain) (log : P → Option (List LogEvent)) (state : P → Option (schedule.State W)) (old new : P) (jobs : List Job) (capacity bound : ℕ) (start : ℕ) (slots : List Slot) (offers : List Offer) (r : Result Report RunFault) → AllValid jobs → AllInRange jobs → offers ≡ offers_from 0 jobs
+    → ((d : Driven mach log state old new offers capacity bound) × ((count_open slots ≡ 0) × (slots ≡ slots_from 0 offers (posted d.moves)) × (first_strange (lends_in offers) nothing_seen (log_of d.moves) ≡ None) × ((a : schedule.State W) → state old ≡ Some a → IsIdle Plain a → turns d.moves ≤ length offers)))
+    → IfOk r (λ report. map (λ o. Done o) report.outcomes.items ≡ slots) → IfOk r (λ report. IfSome (log new) (λ l. report.journal.items ≡ map event_of (drop start l))) → IfErr r (λ e. e ≡ faults.NoMemory)
+    → IfSome (log old) (λ l. start ≡ length l)
+    → RunSays mach view Plain log state old new jobs capacity bound r
+says_either {W = W} mach view Plain laws log state old new jobs capacity bound start slots offers r valid range same run outcomes journal err at =
+    let whole : (d : Driven mach log state old new (offers_from 0 jobs) capacity bound) × ((count_open slots ≡ 0) × (slots ≡ slots_from 0 (offers_from 0 jobs) (posted d.moves)) × (first_strange (lends_in (offers_from 0 jobs)) nothing_seen (log_of d.moves) ≡ None) × ((a : schedule.State W) → state old ≡ Some a → IsIdle Plain a → turns d.moves ≤ length (offers_from 0 jobs))) =
+    subst (λ o. (d : Driven mach log state old new o capacity bound) × ((count_open slots ≡ 0) × (slots ≡ slots_from 0 o (posted d.moves)) × (first_strange (lends_in o) nothing_seen (log_of d.moves) ≡ None) × ((a : schedule.State W) → state old ≡ Some a → IsIdle Plain a → turns d.moves ≤ length o))) same run in
+    told_either mach view Plain laws log state old new jobs capacity bound start slots r valid range whole.0 whole.1.0 whole.1.1 whole.1.2 whole.1.3 outcomes journal err at
+
+-- the log's length is where its gain begins
+pub gain_at : (o : Option (List LogEvent)) (start count : ℕ) → start ≡ count → IfSome o (λ l. count ≡ length l) → IfSome o (λ l. start ≡ length l)
+gain_at None start count e h = tt
+gain_at (Some l) start count e h = e ∙ h

@@ -1,0 +1,114 @@
+use Rattle.std.proofs.Common.{◌≡◌, ℕ, ◌<◌, List, [], Contains, true, false, length, Option, Some, None, IfSome, inl, inr, refl, ap, sym, subst, ◌∙◌, arith}
+use Rattle.std.proofs.lemmas.Result.{err_from_is_err_and}
+use Rattle.uring_model.specs.Machine.{Files}
+use Rattle.uring_model.specs.Schedule as schedule
+use Rattle.uring_model.specs.Viewed.{IsIdle}
+use Rattle.uring_model.specs.Moves.{Move, log_of}
+use Rattle.uring_entry.specs.declared.events.Taken.{Taken}
+use Rattle.uring_entry.specs.declared.events.LogEvent.{LogEvent}
+use Rattle.uring_model.specs.declared.jobs.RunFault.{RunFault}
+use Rattle.uring_model.specs.declared.jobs.RunFault.TheVariants as faults
+use Rattle.uring_ring.specs.Lists.{Lists}
+use Rattle.run_loop.specs.declared.entries.Offer.{Offer}
+use Rattle.run_loop.specs.declared.slot.Slot.{Slot}
+use Rattle.run_loop.specs.Slots.{count_open}
+use Rattle.run_loop.specs.Driven.{Driven, IsGivenUp}
+use Rattle.run_loop.proofs.Posts.{slots-length}
+use Rattle.run_loop.proofs.Running.{Running, few_open, running_first, running_next, running_ran, next_faulted, next_count, stalled_end, whole_end, some_open, left_open, if_some, slots_stay, smaller, quiet_below, next_of}
+use Rattle.run_loop.proofs.drive.drive.Goals as goal
+
+-- with nothing planned at first, one more round leaves the count of faults as the rounds before it did
+still_calm : {W : Type 0} (mach : schedule.Machine W) (o p : Option (schedule.State W)) (ms : List Move) (before now : List ℕ) (first faults faults' : ℕ)
+    → schedule.IsServed mach o ms p → (before ≡ [] → now ≡ []) → IfSome o (λ _. before ≡ [] → faults ≡ first) → IfSome p (λ _. ¬ Contains now 1 → faults' ≡ faults)
+    → IfSome o (λ _. before ≡ [] → faults' ≡ first)
+still_calm mach None p ms before now first faults faults' served empty calm counted = tt
+still_calm mach (Some a) None ms before now first faults faults' served empty calm counted = absurd (served tt)
+still_calm mach (Some a) (Some b) ms before now first faults faults' served empty calm counted = λ e. counted (λ has. let h = subst (λ l. Contains l 1) (empty e) has in absurd (omega (arith, h.1))) ∙ calm e
+
+pub rounds-init : goal.rounds-init
+rounds-init g c =
+    let e = c.requires.empty in
+    let h = c.requires.holds in
+    let slots = c.requires.slots in
+    let size = subst (λ o. IfSome o (λ l. (g.R.UserEnds.entries_fit c.args.engine.now.ring ≡ l.capacity) × (g.R.UserEnds.completions_fit c.args.engine.now.ring ≡ l.completion_capacity))) e.1 (g.met.R.UserEnds.sizes c.args.engine.now.ring) in
+    let count : length c.args.table.now.slots.items ≡ length c.args.todo.now = ap length slots.0 ∙ slots-length 0 c.args.todo.now [] in (
+      running_first _ _ _ _ _ _ _ _ _ _ _ _ c.args.todo.now _ _ c.model_laws.ensures e.0 e.1 e.2 e.3 (sym size.0) refl slots.0 slots.1 (subst (λ k. 0 < k) size.0 h.0, subst (λ k. 0 < k) size.1 h.1) c.requires.six,
+      c.requires.idle,
+      omega (arith, count, slots.1),
+      omega arith,
+      λ p. p,
+      c.requires.settled,
+      if_some (g.P.Partner.state c.args.partner.now) (λ _. g.P.Partner.plan c.args.partner.now ≡ [] → g.P.Counts.faults c.args.partner.now ≡ g.P.Counts.faults c.args.partner.now) (λ _ _ _. refl),
+    )
+
+-- no start, since memory lacked: the run so far
+unserved : {W : Type 0} (mach : schedule.Machine W) (view : W → Files) (Plain : W → Type 0) {P R : Type 0} (log : P → Option (List LogEvent)) (state : P → Option (schedule.State W)) (lists : R → Option Lists) (first now new : P) (ring : R) (room : ℕ) (todo : List Taken) (started : ℕ) (slots : List Slot) (offers : List Offer) (capacity idle quiet : ℕ) (e : RunFault)
+    → Running mach view Plain log state lists first now ring room todo started slots offers capacity idle quiet → 0 < count_open slots → quiet < idle → (e ≡ faults.NoMemory) × (new ≡ now) → (r : Driven mach log state first new offers capacity idle) × IsGivenUp offers idle (log_of r.moves) e
+unserved mach view Plain log state lists first now new ring room todo started slots offers capacity idle quiet e run left waits h =
+    let few = few_open mach view Plain log state lists first now ring room todo started slots offers capacity idle quiet run left waits in
+    let driven : Driven mach log state first now offers capacity idle = running_ran mach view Plain log state lists first now ring room todo started slots offers capacity idle quiet run few in
+    subst (λ n. (r : Driven mach log state first n offers capacity idle) × IsGivenUp offers idle (log_of r.moves) e) (sym h.1) (driven, subst (IsGivenUp offers idle (log_of driven.moves)) (sym h.0) tt)
+
+pub returns-in_err-fin-clause-run : goal.returns-in_err-fin-clause-run
+returns-in_err-fin-clause-run g c =
+    let s = c.rounds.invariant in
+    let d = c.in_err-fin.ensures in
+    let p = err_from_is_err_and c.from_residual.result c.from_residual.ensures.1 in
+    let left = some_open _ _ c.is_whole.ensures.1 c.rounds-test.true in
+    let n : (r : Driven g.P.Partner.machine g.P.Partner.log g.P.Partner.state c.args.partner.now c.round.new.partner c.args.todo.now (g.R.UserEnds.entries_fit c.args.engine.now.ring) c.args.idle) × IsGivenUp c.args.todo.now c.args.idle (log_of r.moves) c.in_err-fin.field-0.0 = elim d.err [
+      | inl h ↦ unserved _ _ _ _ _ _ _ _ _ _ _ _ _ _ c.args.todo.now _ _ _ _ s.0 left s.1 h
+      | inr h ↦ next_faulted _ _ _ _ _ _ _ _ _ _ _ _ _ _ _ _ _ _ _ c.args.todo.now _ _ _ _ (next_of _ _ _ _ _ _ _ _ _ _ _ _ _ _ _ _ _ _ _ c.args.todo.now _ _ _ _ c.model_laws.ensures s.0 h.0 g.R.Rings.keeps h.1 left s.1)
+    ] in
+    (n.0, rw p.1 (subst (λ e. IsGivenUp c.args.todo.now c.args.idle (log_of n.0.moves) e) (sym p.2) n.1))
+
+pub returns-in_err-fin-clause-calm : goal.returns-in_err-fin-clause-calm
+returns-in_err-fin-clause-calm g c =
+    let s = c.rounds.invariant in
+    still_calm _ _ _ _ _ _ _ _ _ s.0.states s.4 s.6 c.in_err-fin.ensures.counted
+
+pub returns-then-quiet-idle-clause-run : goal.returns-then-quiet-idle-clause-run
+returns-then-quiet-idle-clause-run g c =
+    let s = c.rounds.invariant in
+    let d = c.in_ok-fin.ensures in
+    let x = next_of _ _ _ _ _ _ _ _ _ _ _ _ _ _ _ _ _ _ _ c.args.todo.now _ _ _ _ c.model_laws.ensures s.0 d.round g.R.Rings.keeps d.inside (some_open _ _ c.is_whole.ensures.1 c.rounds-test.true) s.1 in
+    let y = running_next _ _ _ _ _ _ _ _ _ _ _ _ _ _ _ _ _ _ _ c.args.todo.now _ _ _ _ _ c.quiet_after-quiet.result x d.calm c.quiet_after-quiet.ensures in
+    let e = stalled_end _ _ _ _ _ _ _ _ _ _ _ _ _ c.args.todo.now _ _ _ y c.if-quiet-idle.true (left_open _ _ _ y.resting c.if-quiet-idle.true c.requires.idle) in
+    (running_ran _ _ _ _ _ _ _ _ _ _ _ _ _ c.args.todo.now _ _ _ y e.0, e.1)
+
+pub returns-then-quiet-idle-clause-unstalled : goal.returns-then-quiet-idle-clause-unstalled
+returns-then-quiet-idle-clause-unstalled g c =
+    let s = c.rounds.invariant in
+    let d = c.in_ok-fin.ensures in
+    let x = next_of _ _ _ _ _ _ _ _ _ _ _ _ _ _ _ _ _ _ _ c.args.todo.now _ _ _ _ c.model_laws.ensures s.0 d.round g.R.Rings.keeps d.inside (some_open _ _ c.is_whole.ensures.1 c.rounds-test.true) s.1 in
+    let y = running_next _ _ _ _ _ _ _ _ _ _ _ _ _ _ _ _ _ _ _ c.args.todo.now _ _ _ _ _ c.quiet_after-quiet.result x d.calm c.quiet_after-quiet.ensures in
+    if_some (g.P.Partner.state c.args.partner.now) (λ a. IsIdle g.P.Partner.Plain a → true ≡ false) (λ a told idle. absurd (omega (arith, (y.prompt a told idle).0, c.if-quiet-idle.true, c.requires.idle)))
+
+pub rounds-smaller : goal.rounds-smaller
+rounds-smaller g c =
+    let s = c.rounds.invariant in
+    let d = c.in_ok-fin.ensures in
+    let x = next_of _ _ _ _ _ _ _ _ _ _ _ _ _ _ _ _ _ _ _ c.args.todo.now _ _ _ _ c.model_laws.ensures s.0 d.round g.R.Rings.keeps d.inside (some_open _ _ c.is_whole.ensures.1 c.rounds-test.true) s.1 in
+    smaller c.in_ok-fin.fin _ _ _ _ _ (next_count _ _ _ _ _ _ _ _ _ _ _ _ _ _ _ _ _ _ _ c.args.todo.now _ _ _ _ x) c.quiet_after-quiet.ensures (omega (arith, s.1))
+
+pub rounds-preserved : goal.rounds-preserved
+rounds-preserved g c =
+    let s = c.rounds.invariant in
+    let d = c.in_ok-fin.ensures in
+    let x = next_of _ _ _ _ _ _ _ _ _ _ _ _ _ _ _ _ _ _ _ c.args.todo.now _ _ _ _ c.model_laws.ensures s.0 d.round g.R.Rings.keeps d.inside (some_open _ _ c.is_whole.ensures.1 c.rounds-test.true) s.1 in
+    let y = running_next _ _ _ _ _ _ _ _ _ _ _ _ _ _ _ _ _ _ _ c.args.todo.now _ _ _ _ _ c.quiet_after-quiet.result x d.calm c.quiet_after-quiet.ensures in
+    let before = slots_stay _ _ _ _ _ _ _ _ _ _ _ _ _ c.args.todo.now _ _ _ s.0 in
+    let after = slots_stay _ _ _ _ _ _ _ _ _ _ _ _ _ c.args.todo.now _ _ _ y in (
+      y,
+      quiet_below c.in_ok-fin.fin _ _ _ c.quiet_after-quiet.ensures (omega (arith, s.1)) c.if-quiet-idle.false,
+      omega (arith, before, after, s.2, d.inside),
+      omega (arith, s.3, d.cause.later),
+      λ p. d.plan (s.4 p),
+      d.settled,
+      still_calm _ _ _ _ _ _ _ _ _ s.0.states s.4 s.6 d.counted,
+    )
+
+pub returns-clause-run : goal.returns-clause-run
+returns-clause-run g c =
+    let s = c.rounds.invariant in
+    let none = c.is_whole.ensures.0 c.rounds-test.false in
+    (running_ran _ _ _ _ _ _ _ _ _ _ _ _ _ c.args.todo.now _ _ _ s.0 (whole_end _ _ _ _ _ _ _ _ _ _ _ _ _ c.args.todo.now _ _ _ s.0 none), (none, s.0.told_slots, s.0.expected, λ a told idle. let q = s.0.prompt a told idle in omega (arith, q.1, q.2)))

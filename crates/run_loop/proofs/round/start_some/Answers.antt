@@ -1,0 +1,28 @@
+use Rattle.std.proofs.Common.{◌≡◌, ◌∷◌, [], ◌++◌, length, ◌+◌, arith, length-append, append_assoc, ap, sym, ◌∙◌}
+use Rattle.uring_ring.specs.Lists.{small}
+use Rattle.run_loop.specs.Entries.{all_taken, entry_of, loan_of}
+use Rattle.run_loop.proofs.RingLemmas.{offers_joined}
+use Rattle.run_loop.proofs.StartLemmas.{ahead_next}
+use Rattle.run_loop.proofs.round.start_some.Goals as goal
+
+pub starts-preserved : goal.starts-preserved
+starts-preserved g c =
+    let s = c.starts.invariant in
+    let d = c.in_ok-start.ensures in
+    let t = small (entry_of c.in-Some.next.number c.in-Some.next.job) (loan_of c.in-Some.next.number c.in-Some.next.job.kind) in
+    let count : length c.starts.todo ≡ length c.pop_front.new.self + 1 = ap length c.in-Some.ensures.front ∙ omega arith in (
+      s.0 ++ t ∷ [],
+      s.1 ∙ ap (λ l. s.0 ++ all_taken l) c.in-Some.ensures.front ∙ sym (append_assoc s.0 (t ∷ []) (all_taken c.pop_front.new.self)),
+      omega (arith, s.2, count, d.started),
+      offers_joined _ _ _ _ _ s.3 d.told,
+      simp length-append (omega (arith, s.4, d.room)),
+      simp length-append (omega (arith, s.5, d.started)),
+      d.slots ∙ s.6,
+      d.waiting ∙ s.7,
+      record {
+        operated = d.operated;
+        replied = d.replied;
+        none = d.none;
+        ahead = ahead_next _ _ _ _ _ _ _ s.8.ahead c.in-Some.ensures.front d.started d.slots;
+      },
+    )

@@ -1,0 +1,46 @@
+use Rattle.std.proofs.Common.{Err, [], ap, sym, subst, ◌∙◌}
+use Rattle.std.proofs.lemmas.Result.{err_from_is_err_and}
+use Rattle.uring_model.specs.declared.jobs.RunFault.TheVariants as faults
+use Rattle.uring_model.specs.Moves.{log_of}
+use Rattle.run_loop.specs.Driven.{Driven, IsGivenUp}
+use Rattle.run_loop.specs.Runs.{RunSays}
+use Rattle.run_loop.specs.Slots.{slots_from, open_slots}
+use Rattle.std.specs.List.{AllByRecursion}
+use Rattle.uring_model.specs.World.{IsSix}
+use Rattle.run_loop.specs.Entries.{all_taken}
+use Rattle.run_loop.proofs.Asks.{six_all}
+use Rattle.run_loop.proofs.Posts.{slots_first}
+use Rattle.run_loop.proofs.StartLemmas.{settled_first}
+use Rattle.run_loop.proofs.Says.{not_driven, not_stalled, says_fault, says_either, gain_at}
+use Rattle.run_loop.proofs.run.run_over.Goals as goal
+
+pub returns-in_default-clause-says : goal.returns-in_default-clause-says
+returns-in_default-clause-says g c =
+    says_fault _ _ _ c.model_laws.ensures _ _ _ _ c.args.jobs.items _ _ faults.NoMemory c.requires.valid c.requires.in_range (not_driven g.P.Partner.machine g.P.Partner.view g.P.Partner.Plain c.model_laws.ensures g.P.Partner.log g.P.Partner.state c.args.partner.now c.args.jobs.items (g.R.UserEnds.entries_fit c.args.ring) c.args.idle) tt (not_stalled _ _)
+
+pub drive-requires-clause-slots : goal.drive-requires-clause-slots
+drive-requires-clause-slots g c =
+    (c.in-Ok.ensures.slots ∙ ap open_slots c.deref.ensures.value ∙ sym (slots_first 0 c.args.jobs.items) ∙ ap (λ o. slots_from 0 o []) (sym c.new-todo.ensures), c.in-Ok.ensures.started)
+
+pub drive-requires-clause-six : goal.drive-requires-clause-six
+drive-requires-clause-six g c = subst (λ o. AllByRecursion IsSix (all_taken o)) (sym c.new-todo.ensures) (six_all 0 c.args.jobs.items c.requires.valid c.requires.in_range)
+
+pub drive-requires-clause-settled : goal.drive-requires-clause-settled
+drive-requires-clause-settled g c =
+    settled_first _ _ _ _ _ c.args.jobs.items c.new-engine.ensures.ops c.in-Ok.ensures.started (drive-requires-clause-slots g c).0 c.in-Ok.ensures.none c.new-todo.ensures
+
+pub returns-in_err-drive-clause-says : goal.returns-in_err-drive-clause-says
+returns-in_err-drive-clause-says g c =
+    let d = c.in_err-drive.ensures in
+    let p = err_from_is_err_and c.from_residual.result c.from_residual.ensures.1 in
+    let run = subst (λ o. (r : Driven g.P.Partner.machine g.P.Partner.log g.P.Partner.state c.args.partner.now c.drive.new.partner o (g.R.UserEnds.entries_fit c.args.ring) c.args.idle) × IsGivenUp o c.args.idle (log_of r.moves) c.in_err-drive.field-0.0) c.new-todo.ensures
+    (subst (λ x. (r : Driven g.P.Partner.machine g.P.Partner.log g.P.Partner.state c.args.partner.now c.drive.new.partner c.new-todo.result (g.R.UserEnds.entries_fit x) c.args.idle) × IsGivenUp c.new-todo.result c.args.idle (log_of r.moves) c.in_err-drive.field-0.0) c.new-engine.ensures.ring d.run) in
+    rw p.1 (subst (λ e. RunSays g.P.Partner.machine g.P.Partner.view g.P.Partner.Plain g.P.Partner.log g.P.Partner.state c.args.partner.now c.drive.new.partner c.args.jobs.items (g.R.UserEnds.entries_fit c.args.ring) c.args.idle (Err e)) (sym p.2)
+    (says_fault _ _ _ c.model_laws.ensures _ _ _ _ c.args.jobs.items _ _ c.in_err-drive.field-0.0 c.requires.valid c.requires.in_range run.0 run.1 d.unstalled))
+
+pub returns-clause-says : goal.returns-clause-says
+returns-clause-says g c =
+    let d = c.in_ok-drive.ensures in
+    let r = c.report_of.ensures in
+    subst (λ x. RunSays g.P.Partner.machine g.P.Partner.view g.P.Partner.Plain g.P.Partner.log g.P.Partner.state c.args.partner.now c.drive.new.partner c.args.jobs.items (g.R.UserEnds.entries_fit x) c.args.idle c.report_of.result) c.new-engine.ensures.ring
+    (says_either _ _ _ c.model_laws.ensures _ _ _ _ c.args.jobs.items _ _ c.log_len-start.result c.drive.new.table.slots.items _ c.report_of.result c.requires.valid c.requires.in_range c.new-todo.ensures d.run r.outcomes r.journal r.err (gain_at _ _ _ c.log_len-start.ensures (g.met.P.Partner.counts_log c.args.partner.now)))

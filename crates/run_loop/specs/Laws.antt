@@ -1,0 +1,23 @@
+-- The laws of the definitions that a run stands on, as their crate states them.
+use Rattle.uring_model.specs.Explained.{IdleCallsAreMoves, IdlePartnersAreExplained}
+use Rattle.uring_model.specs.Joins.{MovesJoin, NoMoveStays, TurnsPostTheirs}
+use Rattle.uring_model.specs.Progress.{TurnsPost, NoneIsLost}
+use Rattle.uring_model.specs.Ends.{WholeWhereSet, IdleWhereWhole}
+use Rattle.uring_model.specs.Machine.{Files}
+use Rattle.uring_model.specs.Schedule.{Machine}
+use Rattle.uring_model.specs.Viewed.{WorldLaws}
+use Rattle.uring_model.specs.Honest.{NoPostIsStrange, PostsAnswer}
+
+pub record ModelLaws {W : Type 0} (mach : Machine W) (view : W → Files) (Plain : W → Type 0) : Type 0 where
+  pub join : MovesJoin
+  pub stay : NoMoveStays
+  pub turn_posts : TurnsPostTheirs
+  pub some_posts : TurnsPost
+  pub none_lost : NoneIsLost
+  pub idle_moves : IdleCallsAreMoves
+  pub explained : IdlePartnersAreExplained
+  pub honest : NoPostIsStrange
+  pub answers : PostsAnswer
+  pub whole : WholeWhereSet
+  pub restful : IdleWhereWhole
+  pub world : WorldLaws mach view Plain

@@ -1,0 +1,84 @@
+-- What a run of jobs promises over every partner.
+use Rattle.std.specs.Prelude.{◌≡◌, ℕ, ◌+◌, ◌*◌, ◌≤◌, ◌<◌, true, if◌then◌else◌, List, [], ◌∷◌, ◌++◌, length, map, Result, Option, Some, None, IfOk, IfErr, IfSome}
+use Rattle.std.specs.Option.{option_map}
+use Rattle.uring_entry.specs.declared.events.Taken.{Taken}
+use Rattle.uring_entry.specs.declared.events.LogEvent.{LogEvent}
+use Rattle.uring_model.specs.declared.jobs.Job.{Job}
+use Rattle.uring_model.specs.declared.jobs.Outcome.{Outcome}
+use Rattle.uring_model.specs.declared.jobs.Report.{Report}
+use Rattle.uring_model.specs.declared.jobs.RunFault.{RunFault}
+use Rattle.uring_model.specs.declared.jobs.RunFault.TheVariants.{BadSize, BadJob, Stranger, Stalled, PartnerFault, NoMemory}
+use Rattle.uring_model.specs.Replay.{IsBusy}
+use Rattle.uring_model.specs.Moves.{Move, took, journal_of, log_of, IsLogged}
+use Rattle.uring_entry.specs.Sizes.{is_valid_size}
+use Rattle.uring_model.specs.Jobs.{all_asked}
+use Rattle.uring_model.specs.Machine.{Files}
+use Rattle.uring_model.specs.Schedule as schedule
+use Rattle.uring_model.specs.Viewed.{IsIdle}
+use Rattle.uring_model.specs.Progress.{turns}
+use Rattle.uring_model.specs.Honest.{TakesWithinTurns}
+use Rattle.uring_model.specs.Strange.{nothing_seen, first_strange}
+use Rattle.run_loop.specs.Entries.{entries_from, lends_at, first_bad}
+use Rattle.run_loop.specs.Memory.{Explains}
+use Rattle.run_loop.specs.Told.{first_final, quiet_turns, reply_for, outcome_from}
+
+-- What the partner did in a run, whatever its answer: `moves` are what its log and its state gained, where it tells them.
+-- It took the jobs' entries in their order; each turn began with the ring full or all jobs pushed, and took no more
+-- than its number; and there were at most `idle` turns a job.
+pub record Ran {W : Type 0} (mach : schedule.Machine W) {P : Type 0} (log : P → Option (List LogEvent)) (state : P → Option (schedule.State W)) (old new : P) (jobs : List Job) (capacity idle : ℕ) : Type 0 where
+  pub moves : List Move
+  pub ahead : List Taken
+  pub logs : IsLogged (log old) moves (log new)
+  pub states : schedule.IsServed mach (state old) moves (state new)
+  pub entries : took moves ++ ahead ≡ entries_from 0 jobs
+  pub busy : IsBusy capacity (length jobs) 0 (journal_of (log_of moves))
+  pub within : TakesWithinTurns 0 moves
+  pub few : turns moves ≤ idle * length jobs
+
+-- what the first final posts tell of the jobs, counted from n
+abbrev pub outcomes_from : ℕ → List Job → List LogEvent → List (Option Outcome)
+outcomes_from n [] log = []
+outcomes_from n (job ∷ jobs) log = option_map (outcome_from (reply_for job.kind)) (first_final n log) ∷ outcomes_from (n + 1) jobs log
+
+-- No post of the log is strange, and each job has the outcome that its first final post tells.
+pub record IsAnswered (jobs : List Job) (log : List LogEvent) (answers : List Outcome) : Type 0 where
+  pub expected : first_strange (lends_at jobs) nothing_seen log ≡ None
+  pub outcomes : map (λ o. Some o) answers ≡ outcomes_from 0 jobs log
+
+-- Some job has no final post, and none stands behind the last `idle` turns.
+pub record IsStalled (jobs : List Job) (idle : ℕ) (log : List LogEvent) : Type 0 where
+  pub quiet : idle ≤ quiet_turns 0 log
+  pub job : ℕ
+  pub inside : job < length jobs
+  pub unanswered : first_final job log ≡ None
+
+-- what a fault says of the log
+abbrev pub IsFaulted : List Job → ℕ → List LogEvent → RunFault → Type 0
+IsFaulted jobs idle log (Stranger u) = first_strange (lends_at jobs) nothing_seen log ≡ Some u
+IsFaulted jobs idle log Stalled = IsStalled jobs idle log
+IsFaulted jobs idle log PartnerFault = Unit {0}
+IsFaulted jobs idle log NoMemory = Unit {0}
+IsFaulted jobs idle log BadSize = ⊥
+IsFaulted jobs idle log (BadJob n) = ⊥
+
+-- The report of a run: its outcomes, and its journal, which is that of the log's gain, where the log is told.
+pub record IsReported {P : Type 0} (log : P → Option (List LogEvent)) (old : P) (jobs : List Job) (moves : List Move) (report : Report) : Type 0 where
+  pub answered : IsAnswered jobs (log_of moves) report.outcomes.items
+  pub journal : IfSome (log old) (λ _. report.journal.items ≡ journal_of (log_of moves))
+
+-- what a run of valid sizes and jobs did, and what its answer tells
+pub record RunSays {W : Type 0} (mach : schedule.Machine W) (view : W → Files) (Plain : W → Type 0) {P : Type 0} (log : P → Option (List LogEvent)) (state : P → Option (schedule.State W)) (old new : P) (jobs : List Job) (capacity idle : ℕ) (result : Result Report RunFault) : Type 0 where
+  pub ran : Ran mach log state old new jobs capacity idle
+  pub report : IfOk result (IsReported log old jobs ran.moves)
+  pub fault : IfErr result (IsFaulted jobs idle (log_of ran.moves))
+  -- over a partner that tells its files and began idle
+  pub memory : (a : schedule.State W) → state old ≡ Some a → IsIdle Plain a → (b : schedule.State W) × (state new ≡ Some b) × Explains view Plain (all_asked jobs) a ran.moves b result
+
+-- sizes and jobs that a run takes
+pub record IsValidRun (sq cq : ℕ) (jobs : List Job) : Type 0 where
+  pub size : is_valid_size sq cq ≡ true
+  pub jobs_valid : first_bad 0 jobs ≡ None
+
+-- the refusals before all else: the sizes first, then the first job that isn't valid
+abbrev pub refusal : ℕ → ℕ → List Job → Option RunFault
+refusal sq cq jobs = if is_valid_size sq cq then option_map BadJob (first_bad 0 jobs) else Some BadSize

@@ -1,0 +1,70 @@
+-- The table of a run: a slot for each job.
+use Rattle.std.specs.Prelude.{ℕ, suc, ◌+◌, Bool, true, false, ◌||◌, ◌&&◌, not, cond, if◌then◌else◌, nat_lt, nat_eq, List, [], ◌∷◌, map, Option, Some, None, slice_get, slice_set}
+use Rattle.uring_entry.specs.declared.events.Completion.{Completion}
+use Rattle.uring_entry.specs.Completions.{is_final}
+use Rattle.uring_model.specs.Strange.{has_other_number, has_wrong_loan}
+use Rattle.uring_model.specs.declared.jobs.Job.{Job}
+use Rattle.run_loop.specs.Told.{Ending, reply_for, lends, outcome_from}
+use Rattle.run_loop.specs.declared.entries.Offer.{Offer}
+use Rattle.run_loop.specs.declared.slot.Reply.{Reply}
+use Rattle.run_loop.specs.declared.slot.Slot.{Slot}
+use Rattle.run_loop.specs.declared.slot.Slot.TheVariants.{Open, Done}
+
+abbrev pub count_open : List Slot → ℕ
+count_open [] = 0
+count_open (Open reply ∷ slots) = suc (count_open slots)
+count_open (Done outcome ∷ slots) = count_open slots
+
+abbrev pub is_strange_at : Option Slot → Completion → Bool
+is_strange_at None c = true
+is_strange_at (Some (Done outcome)) c = true
+is_strange_at (Some (Open reply)) c = has_other_number c.user_data c.loan || has_wrong_loan (lends reply) (is_final c.flags) c.loan
+
+-- a completion that no started and open job is due
+abbrev pub is_stranger : ℕ → List Slot → Completion → Bool
+is_stranger started slots c = not (nat_lt c.user_data started) || is_strange_at (slice_get slots c.user_data) c
+
+-- the slots before the run
+
+abbrev pub opened : Job → Slot
+opened job = Open (reply_for job.kind)
+
+abbrev pub open_slots : List Job → List Slot
+open_slots jobs = map opened jobs
+
+-- a final completion gives its job an outcome
+
+abbrev pub land_in : Option Slot → List Slot → ℕ → Ending → List Slot
+land_in None slots n e = slots
+land_in (Some (Done outcome)) slots n e = slots
+land_in (Some (Open reply)) slots n e = slice_set slots n (Done (outcome_from reply e))
+
+abbrev pub land_one : List Slot → Completion → List Slot
+land_one slots c = if is_final c.flags then land_in (slice_get slots c.user_data) slots c.user_data (record { result = c.result; loan = c.loan }) else slots
+
+abbrev pub land_all : List Slot → List Completion → List Slot
+land_all slots [] = slots
+land_all slots (c ∷ cs) = land_all (land_one slots c) cs
+
+-- the first of these completions that is a stranger, by its number
+abbrev pub stranger_among : ℕ → List Slot → List Completion → Option ℕ
+stranger_among started slots [] = None
+stranger_among started slots (c ∷ cs) = if is_stranger started slots c then Some c.user_data else stranger_among started (land_one slots c) cs
+
+abbrev pub any_final : List Completion → Bool
+any_final [] = false
+any_final (c ∷ cs) = is_final c.flags || any_final cs
+
+-- the first final completion of job j
+abbrev pub final_of : ℕ → List Completion → Option Ending
+final_of j [] = None
+final_of j (c ∷ cs) = cond (is_final c.flags && nat_eq c.user_data j) (Some (record { result = c.result; loan = c.loan })) (final_of j cs)
+
+abbrev pub told_slot : Reply → Option Ending → Slot
+told_slot reply None = Open reply
+told_slot reply (Some e) = Done (outcome_from reply e)
+
+-- the slots of the offers, counted from n, after these completions
+abbrev pub slots_from : ℕ → List Offer → List Completion → List Slot
+slots_from n [] cs = []
+slots_from n (offer ∷ offers) cs = told_slot offer.reply (final_of n cs) ∷ slots_from (n + 1) offers cs

@@ -1,0 +1,63 @@
+-- How a job's operation is begun and polled.
+use Rattle.std.specs.Prelude.{◌≡◌, ℕ, ◌+◌, Bool, true, bit_or, if◌then◌else◌, [], ◌∷◌, Option, Some, is_some, IfSome}
+use Rattle.uring_entry.specs.declared.squeue.Entry.{Entry}
+use Rattle.uring_ring.specs.Lists.{Lists, Becomes, small}
+use Rattle.uring_model.specs.declared.jobs.JobKind.{JobKind}
+use Rattle.uring_model.specs.declared.jobs.Link.{Link}
+use Rattle.uring_model.specs.declared.jobs.Link.TheVariants.{Free, Soft, Hard}
+use Rattle.rent_engine.specs.declared.ops.OpPoll.{OpPoll}
+use Rattle.rent_engine.specs.declared.ops.OpPoll.TheVariants as polls
+use Rattle.rent_engine.specs.Ops.{Ops, done_at, knows, started, polled, taken_out}
+use Rattle.run_loop.specs.Entries.{words_of, loan_of}
+use Rattle.run_loop.specs.Rounds.{pushed_more}
+use Rattle.run_loop.specs.Flights.{outcome_polled}
+use Rattle.run_loop.specs.JobOps.{key_of, reply_of}
+use Rattle.run_loop.specs.Told.{reply_for, lends}
+use Rattle.run_loop.specs.declared.slot.Reply.{Reply}
+use Rattle.run_loop.specs.declared.job_op.JobOp.{JobOp}
+use Rattle.run_loop.specs.declared.job_op.JobPoll.{JobPoll}
+use Rattle.run_loop.specs.declared.job_op.JobPoll.TheVariants.{Ready, Pending}
+
+-- the flags of a drain and of a link
+abbrev pub link_bit : Link → ℕ
+link_bit Free = 0
+link_bit Soft = 4
+link_bit Hard = 8
+
+abbrev pub mark_bits : Bool → Link → ℕ
+mark_bits drain link = bit_or (if drain then 2 else 0) (link_bit link)
+
+-- the entry of job n with these flags added
+abbrev pub with_marks : ℕ → JobKind → ℕ → Entry
+with_marks n kind bits = record (words_of n kind) { flags = bit_or (words_of n kind).flags bits; user_data = n }
+
+-- The job's entry was offered under its number, with its buffer lent, and its operation is in flight.
+pub record IsBegun {R : Type 0} (lists : R → Option Lists) (room waiting : R → ℕ) (n : ℕ) (kind : JobKind) (bits : ℕ) (before after : R) (ops ops' : Ops) (op : JobOp) : Type 0 where
+  pub told : Becomes (lists before) (pushed_more (small (with_marks n kind bits) (loan_of n kind) ∷ [])) (lists after)
+  pub places : room before ≡ room after + 1
+  pub seen : waiting after ≡ waiting before
+  pub operations : ops' ≡ started n (lends (reply_for kind)) ops
+  pub key : key_of op ≡ Some n
+  pub reply : reply_of op ≡ reply_for kind
+
+-- what a poll of a job's operation answers, by what the engine does
+abbrev pub Tells : ℕ → Reply → OpPoll → JobPoll → Type 0
+Tells n reply (polls.Ready done) (Ready outcome) = outcome ≡ outcome_polled reply done
+Tells n reply (polls.Ready done) (Pending op) = ⊥
+Tells n reply (polls.Pending k) (Ready outcome) = ⊥
+Tells n reply (polls.Pending k) (Pending op) = (key_of op ≡ Some n) × (reply_of op ≡ reply)
+Tells n reply (polls.Lost k) answer = ⊥
+
+-- A job's operation was polled, and the rings are as they were.
+pub record IsPolled {R : Type 0} (lists : R → Option Lists) (room waiting : R → ℕ) (n : ℕ) (reply : Reply) (before after : R) (ops ops' : Ops) (answer : JobPoll) : Type 0 where
+  pub told : lists after ≡ lists before
+  pub places : room after ≡ room before
+  pub seen : waiting after ≡ waiting before
+  pub operations : ops' ≡ taken_out n ops
+  pub tells : Tells n reply (polled ops n) answer
+
+-- The engine knows it, and where it is resolved, a buffer came back exactly where it lent one.
+pub record CanBePolled (ops : Ops) (n : ℕ) (op : JobOp) : Type 0 where
+  pub key : key_of op ≡ Some n
+  pub known : knows ops n ≡ true
+  pub brings : IfSome (done_at ops n) (λ done. lends (reply_of op) ≡ is_some done.buf)

@@ -1,0 +1,74 @@
+//! A run, round by round.
+
+ghost use Rattle.std.specs.Prelude.{◌≡◌, ◌+◌, ◌<◌, ◌≤◌, ◌^◌, ℕ, cond, false, List, [], None, Some, MatchResult, IfErr, IfSome, IsTrue, Contains, length};
+ghost use Rattle.uring_entry.specs.Causes.{HasCause};
+ghost use Rattle.uring_model.specs.Moves.{posted, log_of};
+ghost use Rattle.uring_model.specs.Schedule.{State};
+ghost use Rattle.uring_model.specs.Viewed.{IsIdle};
+ghost use Rattle.std.specs.List.{AllByRecursion};
+ghost use Rattle.uring_model.specs.World.{IsSix};
+ghost use Rattle.uring_model.specs.Progress.{turns};
+ghost use Rattle.uring_model.specs.Strange.{nothing_seen, first_strange};
+ghost use Rattle.uring_ring.specs.Lists.{Lists};
+ghost use Rattle.run_loop.specs.Entries.{all_taken, lends_in};
+ghost use Rattle.run_loop.specs.Rounds.{IsCalm, is_partner_fault, is_stall};
+ghost use Rattle.run_loop.specs.Driven.{Driven, IsGivenUp};
+ghost use Rattle.run_loop.specs.Slots.{count_open, slots_from};
+ghost use Rattle.run_loop.specs.Flights.{IsSettled};
+
+use crate::laws::model_laws;
+use crate::offers::Offers;
+use crate::round::round;
+use crate::table::Table;
+use rent_engine::Engine;
+use std::alloc::Global;
+use uring_model::RunFault;
+use partner_calls::Partner;
+use uring_ring::{PartnerSide, UserEnds};
+
+/// How many turns in a row had no final post.
+fn quiet_after(fin: bool, quiet: u32) -> u32
+    requires { quiet + 1 < 2 ^ 32 }
+    ensures { result ≡ cond fin 0 (quiet + 1) }
+{
+    if fin { 0 } else { quiet + 1 }
+}
+
+/// Goes on in rounds until each job has its outcome, or `idle` turns in a row had no final
+/// post.
+pub fn drive<R: UserEnds + PartnerSide, P: Partner>(
+    alloc: Global,
+    idle: u32,
+    engine: &mut Engine<R>,
+    partner: &mut P,
+    todo: &mut Offers,
+    table: &mut Table,
+) -> Result<(), RunFault>
+    requires idle { 0 < idle }
+    requires six { AllByRecursion IsSix (all_taken todo.old) }
+    requires empty { (l : Lists) × (R.lists engine.old.ring ≡ Some l) × IsCalm l (R.room engine.old.ring) × (l.published ≡ []) }
+    requires holds { (0 < R.entries_fit engine.old.ring) × (0 < R.completions_fit engine.old.ring) }
+    requires slots { (table.old.slots.items ≡ slots_from 0 todo.old []) × (table.old.started ≡ 0) }
+    requires settled { IsSettled engine.old.ops table.old.started table.old.slots.items table.old.in_flight.items todo.old }
+    ensures run { (r : Driven P.machine P.log P.state partner.old partner.new todo.old (R.entries_fit engine.old.ring) idle)
+        × MatchResult result
+        (λ _. (count_open table.new.slots.items ≡ 0) × (table.new.slots.items ≡ slots_from 0 todo.old (posted r.moves)) × (first_strange (lends_in todo.old) nothing_seen (log_of r.moves) ≡ None)
+        × ((a : State P.World) → P.state partner.old ≡ Some a → IsIdle P.Plain a → turns r.moves ≤ length todo.old))
+        (λ e. IsGivenUp todo.old idle (log_of r.moves) e) }
+    ensures cause { HasCause is_partner_fault (P.faults partner.old) (P.faults partner.new) result }
+    ensures unplanned { IfSome (P.state partner.old) (λ _. P.plan partner.old ≡ [] → IfErr result (λ e. is_partner_fault e ≡ false)) }
+    ensures plan { P.plan partner.old ≡ [] → P.plan partner.new ≡ [] }
+    ensures calm { IfSome (P.state partner.old) (λ _. P.plan partner.old ≡ [] → P.faults partner.new ≡ P.faults partner.old) }
+    ensures unstalled { IfSome (P.state partner.old) (λ a. IsIdle P.Plain a → IfErr result (λ e. is_stall e ≡ false)) }
+{
+    model_laws::<P>();
+    let mut quiet = 0;
+    'rounds: while !table.is_whole() {
+        let fin = round(alloc, engine, partner, todo, table)?;
+        quiet = quiet_after(fin, quiet);
+        if quiet == idle {
+            return Err(RunFault::Stalled);
+        }
+    }
+    Ok(())
+}

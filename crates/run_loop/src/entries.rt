@@ -1,0 +1,81 @@
+//! The entries of the jobs.
+
+ghost use Rattle.std.specs.Prelude.{◌≡◌, ◌≤◌, ◌<◌, ◌^◌, IfNone, true, Some};
+ghost use Rattle.uring_model.specs.Jobs.{asked, is_valid_job, is_valid_at};
+ghost use Rattle.run_loop.specs.Entries.{AllValid, IsInRange, AllInRange, first_bad, unlinked_if};
+
+use crate::slot::Reply;
+use uring_entry::squeue::Entry;
+use uring_entry::{Buf, Loan};
+use uring_model::{Job, JobKind, Link};
+
+/// What is offered for a job: its entry, with its loan, and what its outcome will tell.
+#[derive(Drop)]
+pub struct Offer {
+    pub entry: Entry,
+    pub loan: Option<Loan>,
+    pub reply: Reply,
+}
+
+/// The largest position and length, and the largest count that a result can tell.
+const LARGEST_PLACE: u64 = 9_223_372_036_854_775_807;
+
+const LARGEST_COUNT: usize = 2_147_483_647;
+
+fn is_in_range(offset: u64, buf: &Buf) -> bool
+    ensures { result ≡ is_valid_at offset buf.now }
+{
+    buf.len() <= LARGEST_COUNT && offset <= LARGEST_PLACE - buf.len() as u64
+}
+
+fn is_valid(job: &Job) -> bool
+    ensures { result ≡ is_valid_job (asked job.now) }
+{
+    match &job.kind {
+        JobKind::Read { offset, buf, .. } | JobKind::Write { offset, buf, .. } => {
+            is_in_range(*offset, buf)
+        }
+        JobKind::Ftruncate { len, .. } => *len <= LARGEST_PLACE,
+        JobKind::Nop | JobKind::Fsync { .. } | JobKind::Cancel { .. } => true,
+    }
+}
+
+// Reading the number shows that it has its type's range.
+fn keep_range(job: &Job)
+    ensures { IsInRange job.now.kind }
+{
+    match &job.kind {
+        JobKind::Read { file, .. }
+        | JobKind::Write { file, .. }
+        | JobKind::Fsync { file }
+        | JobKind::Ftruncate { file, .. } => {
+            let _file = *file;
+        }
+        JobKind::Nop | JobKind::Cancel { .. } => {}
+    }
+}
+
+/// The first job whose buffer is too long for a result, or that reaches past the largest place.
+pub fn first_bad_job(jobs: &[Job]) -> Option<u64>
+    ensures first { result ≡ first_bad 0 jobs.now }
+    ensures none { IfNone result (AllValid jobs.now) }
+    ensures in_range { IfNone result (AllInRange jobs.now) }
+{
+    let mut number = 0;
+    for job in jobs {
+        keep_range(job);
+        if !is_valid(job) {
+            return Some(number);
+        }
+        number += 1;
+    }
+    None
+}
+
+/// The job; the last one has no link.
+pub fn unlinked_if(is_last: bool, job: Job) -> Job
+    ensures { result ≡ unlinked_if is_last job }
+{
+    let link = if is_last { Link::Free } else { job.link };
+    Job { link, ..job }
+}

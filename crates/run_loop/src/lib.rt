@@ -1,0 +1,18 @@
+//! Jobs, run over a ring and a partner.
+#![tactic(auto)]
+
+mod drive;
+mod entries;
+mod flights;
+mod job_op;
+mod laws;
+mod offers;
+mod polls;
+mod round;
+mod run;
+mod slot;
+mod starts;
+mod table;
+
+pub use run::run_jobs;
+pub use uring_model::{Job, JobKind, Link, Outcome, Report, RunFault};

@@ -1,0 +1,151 @@
+//! Jobs, run from one end to the other.
+
+ghost use Rattle.std.specs.Prelude.{◌≡◌, ◌<◌, ◌↔◌, ◌∷◌, [], List, IfOk, IfErr, IfSome, IsSome, IsTrue, OnOk, Option, Some, None, true, false, is_none, map, drop, length};
+ghost use Rattle.uring_entry.specs.Causes.{HasCause};
+ghost use Rattle.uring_entry.specs.Sizes.{rounded_up, is_valid_size};
+ghost use Rattle.uring_ring.specs.IoUring.{IsOpened};
+ghost use Rattle.uring_model.specs.Moves.{event_of};
+ghost use Rattle.uring_ring.specs.Lists.{Lists};
+ghost use Rattle.run_loop.specs.Entries.{AllValid, AllInRange};
+ghost use Rattle.run_loop.specs.Rounds.{IsCalm, is_partner_fault, is_refusal};
+ghost use Rattle.run_loop.specs.Slots.{count_open};
+ghost use Rattle.run_loop.specs.declared.slot.Slot.{Slot};
+ghost use Rattle.run_loop.specs.Runs.{RunSays, IsValidRun, refusal};
+
+use crate::drive::drive;
+use crate::entries::first_bad_job;
+use crate::laws::model_laws;
+use crate::offers::Offers;
+use crate::slot::Slot;
+use crate::table::Table;
+use rent_engine::Engine;
+use std::alloc::{AllocError, Global};
+use uring_entry::Event;
+use uring_model::{Job, Report, RunFault};
+use partner_calls::Partner;
+use uring_ring::{Builder, IoUring, Parameters, PartnerSide, SetupError, UserEnds};
+
+/// The events that a partner's log has from `start` on.
+fn journal_since<P: Partner>(
+    alloc: Global,
+    partner: &P,
+    start: usize,
+) -> Result<Vec<Event>, AllocError>
+    ensures { IfOk result (λ journal. IfSome (P.log partner.now) (λ log. journal.items ≡ map event_of (drop start log))) }
+{
+    let end = partner.log_len();
+    let mut journal = Vec::with_capacity(alloc, end.saturating_sub(start))?;
+    for place in start..end {
+        journal.push(partner.log_event(place))?;
+    }
+    Ok(journal)
+}
+
+/// The outcomes of a table in which each job has one, and the events that the log has from
+/// `start` on.
+fn report_of<P: Partner>(
+    alloc: Global,
+    table: Table,
+    partner: &P,
+    start: usize,
+) -> Result<Report, RunFault>
+    requires { count_open table.slots.items ≡ 0 }
+    ensures outcomes { IfOk result (λ report. map (λ o. Slot.Done o) report.outcomes.items ≡ table.slots.items) }
+    ensures journal { IfOk result (λ report. IfSome (P.log partner.now) (λ log. report.journal.items ≡ map event_of (drop start log))) }
+    ensures err { IfErr result (λ e. e ≡ RunFault.NoMemory) }
+{
+    let Ok(outcomes) = table.into_outcomes(alloc) else {
+        return Err(RunFault::NoMemory);
+    };
+    let Ok(journal) = journal_since(alloc, partner, start) else {
+        return Err(RunFault::NoMemory);
+    };
+    Ok(Report { outcomes, journal })
+}
+
+/// Runs valid jobs over an empty ring.
+fn run_over<R: UserEnds + PartnerSide + Drop, P: Partner>(
+    alloc: Global,
+    ring: R,
+    params: Parameters,
+    idle: u32,
+    partner: &mut P,
+    jobs: Vec<Job>,
+) -> Result<Report, RunFault>
+    requires idle { 0 < idle }
+    requires empty { (l : Lists) × (R.lists ring ≡ Some l) × IsCalm l (R.room ring) × (l.published ≡ []) }
+    requires holds { (0 < R.entries_fit ring) × (0 < R.completions_fit ring) }
+    requires valid { AllValid jobs.items }
+    requires in_range { AllInRange jobs.items }
+    ensures says { RunSays P.machine P.view P.Plain P.log P.state partner.old partner.new jobs.items (R.entries_fit ring) idle result }
+    ensures cause { HasCause is_partner_fault (P.faults partner.old) (P.faults partner.new) result }
+    ensures unplanned { IfSome (P.state partner.old) (λ _. P.plan partner.old ≡ [] → IfErr result (λ e. is_partner_fault e ≡ false)) }
+    ensures plan { P.plan partner.old ≡ [] → P.plan partner.new ≡ [] }
+    ensures calm { IfSome (P.state partner.old) (λ _. P.plan partner.old ≡ [] → P.faults partner.new ≡ P.faults partner.old) }
+    ensures run_fault { IfErr result (λ e. is_refusal e ≡ false) }
+{
+    model_laws::<P>();
+    let start = partner.log_len();
+    let Ok(mut table) = Table::new(alloc, &jobs) else {
+        return Err(RunFault::NoMemory);
+    };
+    let mut todo = Offers::new(jobs);
+    let mut engine = Engine::new(alloc, ring, params);
+    drive(alloc, idle, &mut engine, partner, &mut todo, &mut table)?;
+    report_of(alloc, table, partner, start)
+}
+
+/// An empty ring of these sizes, or no memory for it.
+fn ring_of(alloc: Global, sq: u32, cq: u32, start: u32) -> Result<IoUring, SetupError>
+    requires { is_valid_size sq cq ≡ true }
+    ensures ok { IfOk result (λ ring. IsOpened ring (rounded_up sq) (rounded_up cq) start) }
+{
+    let mut builder = IoUring::builder();
+    builder.setup_cqsize(cq).start(start);
+    builder.build(alloc, sq)
+}
+
+/// Whether these are sizes of rings.
+fn is_valid(sq: u32, cq: u32) -> bool
+    ensures { result ≡ is_valid_size sq cq }
+{
+    let mut builder: Builder = IoUring::builder();
+    builder.setup_cqsize(cq).parameters(sq).is_ok()
+}
+
+/// Runs the jobs over a ring of these sizes and the partner, and tells each outcome and the
+/// journal of what the partner took and posted. It offers entries until the submission ring is
+/// full or none is left, and then takes a turn, until all have settled; an empty list takes no
+/// turn. `sq` is 1 to 32768 and `cq` 1 to 65536; both are rounded up to powers of two, and then
+/// `cq` is at least `sq`. Positions begin at `start`. It gives up as `Stalled` where `idle` turns
+/// in a row had no final post.
+pub fn run_jobs<P: Partner>(
+    alloc: Global,
+    sq: u32,
+    cq: u32,
+    start: u32,
+    idle: u32,
+    partner: &mut P,
+    jobs: Vec<Job>,
+) -> Result<Report, RunFault>
+    requires { 0 < idle }
+    ensures refused { IfSome (refusal sq cq jobs.items) (λ fault. (result ≡ Err fault) × (partner.new ≡ partner.old)) }
+    ensures run { IsValidRun sq cq jobs.items → RunSays P.machine P.view P.Plain P.log P.state partner.old partner.new jobs.items (rounded_up sq) idle result }
+    ensures cause { HasCause is_partner_fault (P.faults partner.old) (P.faults partner.new) result }
+    ensures unplanned { IfSome (P.state partner.old) (λ _. P.plan partner.old ≡ [] → IfErr result (λ e. is_partner_fault e ≡ false)) }
+    ensures plan { P.plan partner.old ≡ [] → P.plan partner.new ≡ [] }
+    ensures calm { IfSome (P.state partner.old) (λ _. P.plan partner.old ≡ [] → P.faults partner.new ≡ P.faults partner.old) }
+{
+    if !is_valid(sq, cq) {
+        return Err(RunFault::BadSize);
+    }
+    if let Some(job) = first_bad_job(&jobs) {
+        return Err(RunFault::BadJob(job));
+    }
+    model_laws::<P>();
+    let Ok(ring) = ring_of(alloc, sq, cq, start) else {
+        return Err(RunFault::NoMemory);
+    };
+    let params = *ring.params();
+    run_over(alloc, ring, params, idle, partner, jobs)
+}

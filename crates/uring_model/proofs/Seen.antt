@@ -1,0 +1,218 @@
+-- A machine that refines another goes, over plain states, as the other does in the view.
+use Rattle.std.proofs.Common.{◌≡◌, ℕ, zero, suc, Bool, true, false, ◌&&◌, ◌||◌, not, cond, nat_eq, List, [], ◌∷◌, ◌++◌, length, map, drop, Option, Some, None, slice_get, ℤ, refl, ap, sym, subst, ◌∙◌, append_assoc}
+use Rattle.std.specs.Prelude.{◌/◌, ◌%◌, if◌then◌else◌}
+use Rattle.std.specs.List.{AllByRecursion}
+use Rattle.std.proofs.lemmas.Option.{same_Some}
+use Rattle.uring_entry.specs.declared.events.Taken.{Taken}
+use Rattle.uring_entry.specs.declared.events.Completion.{Completion}
+use Rattle.uring_entry.specs.declared.buffer.Loan.{Loan}
+use Rattle.uring_model.specs.declared.pending.Pending.{Pending}
+use Rattle.uring_model.specs.Machine.{AnswerIn}
+use Rattle.uring_model.specs.Jobs.{linked}
+use Rattle.uring_model.specs.Replay.{cuts, keep_if}
+use Rattle.uring_model.specs.Chosen.{choice, stops}
+use Rattle.uring_model.specs.Moves.{Move, Turned, Took, Posted, took}
+use Rattle.uring_model.specs.Asks.{job_of}
+use Rattle.uring_model.specs.Viewed.{Agrees, Refines, Fine, WorldLaws}
+use Rattle.uring_model.specs.Partner.{file_machine}
+use Rattle.uring_model.specs.Machine.{Files}
+use Rattle.uring_model.specs.World.{IsSix}
+use Rattle.uring_model.proofs.WorldJoins.{IsServed-append, IsServed-none}
+use Rattle.uring_model.specs.Schedule.{Cursor, Machine, State, cut_of, held, no_drain, is_nil, other_in, mark_first, mark_first_if, pass, pass_end, named, canceled_in, cut_after, after_take, take_all, after_settle, completion_of, Outturn, posting, stays, is_ready, ready_cursors, cursors, answer_to, settled_by, Settles, Steps, settle_then, settle_turn, turn}
+
+keep_same : {A : Type 0} (b d : Bool) (x : A) (xs ys : List A) → b ≡ d → xs ≡ ys → keep_if b x xs ≡ keep_if d x ys
+keep_same b d x xs ys p q = ap (λ e. keep_if e x xs) p ∙ ap (λ l. keep_if d x l) q
+
+pub all-append : (P : Taken → Type 0) (xs ys : List Pending) → AllByRecursion (λ i. P i.taken) xs → AllByRecursion (λ i. P i.taken) ys → AllByRecursion (λ i. P i.taken) (xs ++ ys)
+all-append P [] ys h k = k
+all-append P (x ∷ xs) ys h k = (h.0, all-append P xs ys h.1 k)
+
+all_split : (P : Taken → Type 0) (xs ys : List Pending) → AllByRecursion (λ i. P i.taken) (xs ++ ys) → AllByRecursion (λ i. P i.taken) xs × AllByRecursion (λ i. P i.taken) ys
+all_split P [] ys h = (tt, h)
+all_split P (x ∷ xs) ys h = let p = all_split P xs ys h.1 in ((h.0, p.0), p.1)
+
+all_either : (P : Taken → Type 0) (b : Bool) (xs ys : List Pending) → AllByRecursion (λ i. P i.taken) xs → AllByRecursion (λ i. P i.taken) ys → AllByRecursion (λ i. P i.taken) (cond b xs ys)
+all_either P true xs ys h k = h
+all_either P false xs ys h k = k
+
+all_first : (P : Taken → Type 0) (t : ℕ) (is : List Pending) → AllByRecursion (λ i. P i.taken) is → AllByRecursion (λ i. P i.taken) (mark_first t is)
+all_first P t [] h = tt
+all_first P t (i ∷ is) h = all_either P (nat_eq i.taken.entry.user_data t && not i.marked) (record { taken = i.taken; cut = i.cut; marked = true } ∷ is) (i ∷ mark_first t is) (h.0, h.1) (h.0, all_first P t is h.1)
+
+all_marked : (P : Taken → Type 0) (o : Option ℕ) (is : List Pending) → AllByRecursion (λ i. P i.taken) is → AllByRecursion (λ i. P i.taken) (mark_first_if o is)
+all_marked P None is h = h
+all_marked P (Some t) is h = all_first P t is h
+
+all_passed : (P : Taken → Type 0) (b s : Bool) (is : List Pending) → AllByRecursion (λ i. P i.taken) is → AllByRecursion (λ i. P i.taken) (pass b s is)
+all_passed P false s is h = h
+all_passed P true s [] h = h
+all_passed P true s (i ∷ is) h = (h.0, h.1)
+
+all_settled : {W : Type 0} (P : Taken → Type 0) (a : State W) (c : Cursor) (y : AnswerIn W) → AllByRecursion (λ i. P i.taken) c.front → AllByRecursion (λ i. P i.taken) c.back → AllByRecursion (λ i. P i.taken) (after_settle a c y).pending
+all_settled P a c y h k =
+    all_marked P y.marks (c.front ++ pass (linked (job_of c.item.taken).link) (cut_after c y) c.back)
+    (all-append P c.front (pass (linked (job_of c.item.taken).link) (cut_after c y) c.back) h (all_passed P (linked (job_of c.item.taken).link) (cut_after c y) c.back k))
+
+kept : {A : Type 0} (b : Bool) (x : A) (xs : List A) (k : ℕ) (c : A) (P : A → Type 0) → slice_get (keep_if b x xs) k ≡ Some c → P x → ((n : ℕ) → slice_get xs n ≡ Some c → P c) → P c
+kept true x xs zero c P e p f = subst P (same_Some x c e) p
+kept true x xs (suc k) c P e p f = f k e
+kept false x xs k c P e p f = f k e
+
+split_of : (can : Taken → Bool) (front is : List Pending) (k : ℕ) (c : Cursor) → slice_get (ready_cursors can front is) k ≡ Some c → c.front ++ c.item ∷ c.back ≡ front ++ is
+split_of can front [] k c e = absurd (cc)
+split_of can front (i ∷ is) k c e =
+    kept (is_ready can front i) (record { front = front; item = i; back = is }) (ready_cursors can (front ++ i ∷ []) is) k c (λ x. x.front ++ x.item ∷ x.back ≡ front ++ i ∷ is) e refl
+    (λ n q. split_of can (front ++ i ∷ []) is n c q ∙ append_assoc front (i ∷ []) is)
+
+post_same : (t : Taken) (r s : ℤ) (f g : ℤ → List ℕ → Option Loan) (x y : List ℕ) → r ≡ s → ((q : ℤ) (z : List ℕ) → f q z ≡ g q z) → x ≡ y
+    → ◌≡◌ {A = Completion} (record { user_data = t.entry.user_data; result = r; flags = 0; big = 0 ∷ 0 ∷ []; loan = f r x }) (record { user_data = t.entry.user_data; result = s; flags = 0; big = 0 ∷ 0 ∷ []; loan = g s y })
+post_same t r s f g x y p e q = λ i. record { user_data = t.entry.user_data; result = p i; flags = 0; big = 0 ∷ 0 ∷ []; loan = (ap (λ k. f k x) p ∙ ap (f s) q ∙ e s y) i }
+
+module _ {W V : Type 0} (m : Machine W) (n : Machine V) (view : W → V) (Plain : W → Type 0) (Asked : Taken → Type 0) (r : Refines m n view Plain Asked) where
+  abbrev look : State W → State V
+  look a = record { files = view a.files; pending = a.pending; tail = a.tail; choices = a.choices }
+
+  abbrev Good : State W → Type 0
+  Good a = Fine Plain Asked a
+
+  abbrev Each : List Pending → Type 0
+  Each is = AllByRecursion (λ i. Asked i.taken) is
+
+  ready_same : (w : W) (front : List Pending) (i : Pending) → Plain w → Asked i.taken → is_ready (m.can_answer w) front i ≡ is_ready (n.can_answer (view w)) front i
+  ready_same w front i p q = ap (λ b. (b || i.marked || i.cut) && (not (held false front) && no_drain front && (not (job_of i.taken).drain || is_nil front))) (r.can w i.taken p q)
+
+  cursors_same : (w : W) (front is : List Pending) → Plain w → Each is → ready_cursors (m.can_answer w) front is ≡ ready_cursors (n.can_answer (view w)) front is
+  cursors_same w front [] p q = refl
+  cursors_same w front (i ∷ is) p q =
+      keep_same (is_ready (m.can_answer w) front i) (is_ready (n.can_answer (view w)) front i) (record { front = front; item = i; back = is }) (ready_cursors (m.can_answer w) (front ++ i ∷ []) is) (ready_cursors (n.can_answer (view w)) (front ++ i ∷ []) is)
+      (ready_same w front i p q.0) (cursors_same w (front ++ i ∷ []) is p q.1)
+
+  pub ready_seen : (a : State W) → Good a → cursors m a ≡ cursors n (look a)
+  ready_seen a f = cursors_same a.files [] a.pending f.world f.pending
+
+  named_same : (a : State W) → Good a → named (choice a.choices) (cursors m a) ≡ named (choice a.choices) (cursors n (look a))
+  named_same a f = ap (named (choice a.choices)) (ready_seen a f)
+
+  -- one answer
+
+  answer_either : (w : W) (c : Cursor) (b : Bool) → Plain w → Asked c.item.taken
+      → Agrees view (if b then canceled_in w (job_of c.item.taken).buf else m.answer w (other_in c) c.item.taken) (if b then canceled_in (view w) (job_of c.item.taken).buf else n.answer (view w) (other_in c) c.item.taken)
+  answer_either w c true p q = record { result = refl; buf = refl; files = refl; marks = refl }
+  answer_either w c false p q = r.answers w (other_in c) c.item.taken p q
+
+  answer_same : (w : W) (c : Cursor) → Plain w → Asked c.item.taken → Agrees view (answer_to m w c) (answer_to n (view w) c)
+  answer_same w c p q = answer_either w c (c.item.marked || c.item.cut) p q
+
+  plain_either : (w : W) (c : Cursor) (b : Bool) → Plain w → Asked c.item.taken → Plain (if b then canceled_in w (job_of c.item.taken).buf else m.answer w (other_in c) c.item.taken).files
+  plain_either w c true p q = p
+  plain_either w c false p q = r.stays w (other_in c) c.item.taken p q
+
+  -- one settling
+
+  settle_same : (a : State W) (c : Cursor) (y : AnswerIn W) (z : AnswerIn V) → Agrees view y z → look (after_settle a c y) ≡ after_settle (look a) c z
+  settle_same a c y z g = λ i. record {
+    files = g.files i;
+    pending = mark_first_if (g.marks i) (c.front ++ pass (linked (job_of c.item.taken).link) (cuts c.item.cut (job_of c.item.taken) (g.result i)) c.back);
+    tail = pass_end (linked (job_of c.item.taken).link) (cuts c.item.cut (job_of c.item.taken) (g.result i)) c.back a.tail;
+    choices = drop 1 a.choices;
+  }
+
+  post_seen : (t : Taken) (y : AnswerIn W) (z : AnswerIn V) → Asked t → Agrees view y z → completion_of m t y ≡ completion_of n t z
+  post_seen t y z q g = post_same t y.result z.result (m.back t) (n.back t) y.buf z.buf g.result (λ k x. r.backs t k x q) g.buf
+
+  -- the entry that a choice names is one that may be asked, and what is left is plain
+  named_fine : (a : State W) (c : Cursor) → Good a → named (choice a.choices) (cursors m a) ≡ Some c → Asked c.item.taken × Good (settled_by m a c)
+  named_fine a c f e =
+      let whole = split_of (m.can_answer a.files) [] a.pending ((choice a.choices / 2) % length (cursors m a)) c e in
+      let parts = all_split Asked c.front (c.item ∷ c.back) (subst Each (sym whole) f.pending) in
+      (parts.1.0, record { world = plain_either a.files c (c.item.marked || c.item.cut) f.world parts.1.0; pending = all_settled Asked a c (answer_to m a.files c) parts.0 parts.1.1 })
+
+  settled_seen : (a : State W) (c : Cursor) → Good a → Asked c.item.taken → look (settled_by m a c) ≡ settled_by n (look a) c
+  settled_seen a c f q = settle_same a c (answer_to m a.files c) (answer_to n (view a.files) c) (answer_same a.files c f.world q)
+
+  settles_seen : (a : State W) (post : Completion) → Good a → (s : Settles m a post) → Settles n (look a) post
+  settles_seen a post f s = record {
+    cursor = s.cursor;
+    chosen = sym (named_same a f) ∙ s.chosen;
+    completion = s.completion ∙ post_seen s.cursor.item.taken (answer_to m a.files s.cursor) (answer_to n (view a.files) s.cursor) (named_fine a s.cursor f s.chosen).0 (answer_same a.files s.cursor f.world (named_fine a s.cursor f s.chosen).0);
+  }
+
+  take_fine : (a : State W) (t : Taken) → Good a → Asked t → Good (after_take a t)
+  take_fine a t f q = record { world = f.world; pending = all-append Asked a.pending (record { taken = t; cut = cut_of a.tail; marked = false } ∷ []) f.pending (q, tt) }
+
+  -- steps
+
+  pub steps_seen : (over : Bool) (a b : State W) (ms : List Move) → Good a → AllByRecursion Asked (took ms) → Steps m over a ms b → Steps n over (look a) ms (look b) × Good b
+  unfolding settles_seen
+  steps_seen over a b [] f q h = (ap look h, subst Good (sym h) f)
+  steps_seen over a b (Turned p ∷ ms) f q h = steps_seen false a b ms f q h
+  steps_seen over a b (Took t ∷ ms) f q h =
+      let more = steps_seen false (after_take a t) b ms (take_fine a t f q.0) q.1 h.1 in
+      ((h.0, more.0), more.1)
+  steps_seen over a b (Posted c ∷ ms) f q h =
+      let x = h.1.cursor in
+      let fine = named_fine a x f h.1.chosen in
+      let more = steps_seen (stops (choice a.choices)) (settled_by m a x) b ms fine.1 q h.2 in
+      ((h.0, settles_seen a c f h.1, subst (λ s. Steps n (stops (choice a.choices)) s ms (look b)) (settled_seen a x f fine.0) more.0), more.1)
+
+  -- turns
+
+  record Same (x : Outturn W) (y : Outturn V) : Type 0 where
+    posts : x.posts ≡ y.posts
+    state : look x.state ≡ y.state
+    fine : Good x.state
+
+  branch_same : (stop : Bool) (x1 x2 : Outturn W) (y1 y2 : Outturn V) → Same x1 y1 → Same x2 y2 → Same (if stop then x1 else x2) (if stop then y1 else y2)
+  branch_same true x1 x2 y1 y2 p q = p
+  branch_same false x1 x2 y1 y2 p q = q
+
+  posting_same : (u v : Completion) (x : Outturn W) (y : Outturn V) → u ≡ v → Same x y → Same (posting u x) (posting v y)
+  posting_same u v x y e s = record { posts = ap (λ k. k ∷ x.posts) e ∙ ap (λ l. v ∷ l) s.posts; state = s.state; fine = s.fine }
+
+  at_seen : (a : State W) (b : State V) (f : State W → Outturn W) (g : State V → Outturn V) → look a ≡ b → Same (f a) (g (look a)) → Same (f a) (g b)
+  at_seen a b f g e s = subst (λ c. Same (f a) (g c)) e s
+
+  then_same : (a : State W) (fp : State W → Outturn W) (gp : State V → Outturn V) (o : Option Cursor) → Good a → named (choice a.choices) (cursors m a) ≡ o
+      → ((b : State W) → Good b → Same (fp b) (gp (look b))) → Same (settle_then m a fp o) (settle_then n (look a) gp o)
+  then_same a fp gp None f e q = record { posts = refl; state = refl; fine = f }
+  then_same a fp gp (Some c) f e q =
+      let fine = named_fine a c f e in
+      let y = answer_to m a.files c in
+      let z = answer_to n (view a.files) c in
+      let g = answer_same a.files c f.world fine.0 in
+      let here = settled_seen a c f fine.0 in
+      let b = settled_by m a c in
+      let d = settled_by n (look a) c in
+      posting_same (completion_of m c.item.taken y) (completion_of n c.item.taken z) (if stops (choice a.choices) then stays b else fp b) (if stops (choice a.choices) then stays d else gp d)
+      (post_seen c.item.taken y z fine.0 g)
+      (branch_same (stops (choice a.choices)) (stays b) (fp b) (stays d) (gp d) (at_seen b d (λ s. stays s) (λ s. stays s) here (record { posts = refl; state = refl; fine = fine.1 })) (at_seen b d fp gp here (q b fine.1)))
+
+  turn_same : (room : ℕ) (a : State W) → Good a → Same (settle_turn m room a) (settle_turn n room (look a))
+  turn_same zero a f = record { posts = refl; state = refl; fine = f }
+  turn_same (suc room) a f =
+      subst (λ o. Same (settle_turn m (suc room) a) (settle_then n (look a) (settle_turn n room) o)) (named_same a f)
+      (then_same a (settle_turn m room) (settle_turn n room) (named (choice a.choices) (cursors m a)) f refl (turn_same room))
+
+  take_seen : (ts : List Taken) (a : State W) → look (take_all a ts) ≡ take_all (look a) ts
+  take_seen [] a = refl
+  take_seen (t ∷ ts) a = take_seen ts (after_take a t)
+
+  takes_fine : (ts : List Taken) (a : State W) → Good a → AllByRecursion Asked ts → Good (take_all a ts)
+  takes_fine [] a f q = f
+  takes_fine (t ∷ ts) a f q = takes_fine ts (after_take a t) (take_fine a t f q.0) q.1
+
+  pub turn_seen : (room : ℕ) (ts : List Taken) (a : State W) → Good a → AllByRecursion Asked ts
+      → ((turn m ts room a).posts ≡ (turn n ts room (look a)).posts) × (look (turn m ts room a).state ≡ (turn n ts room (look a)).state) × Good (turn m ts room a).state
+  turn_seen room ts a f q =
+      let b = take_all a ts in
+      let s : Same (settle_turn m room b) (turn n ts room (look a)) =
+        subst (λ c. Same (settle_turn m room b) (settle_turn n room c)) (take_seen ts a) (turn_same room b (takes_fine ts a f q)) in
+      (s.posts, s.state, s.fine)
+
+pub world_laws : {W : Type 0} (m : Machine W) (view : W → Files) (Plain : W → Type 0) → Refines m file_machine view Plain IsSix → WorldLaws m view Plain
+world_laws m view Plain r = record {
+  join = IsServed-append m;
+  stay = IsServed-none m;
+  steps_seen = λ over a b ms f q h. steps_seen m file_machine view Plain IsSix r over a b ms f q h;
+  turns_seen = λ room ts a f q. let s = turn_seen m file_machine view Plain IsSix r room ts a f q in (s.0, s.1, s.2);
+}

@@ -1,0 +1,43 @@
+-- What an entry asks, and how it is linked.
+use Rattle.std.specs.Prelude.{ℕ, ◌&&◌, cond, nat_lt, nat_eq, List, length, Option, Some, None}
+use Rattle.std.specs.Int.{w32, cast_unsigned}
+use Rattle.uring_entry.specs.declared.squeue.Entry.{Entry}
+use Rattle.uring_entry.specs.declared.buffer.Loan.{Loan}
+use Rattle.uring_entry.specs.declared.events.Taken.{Taken}
+use Rattle.uring_entry.specs.FlagBits.{has_bit}
+use Rattle.uring_entry.specs.Loans.{part_of}
+use Rattle.uring_model.specs.declared.jobs.Link.{Link}
+use Rattle.uring_model.specs.declared.jobs.Link.TheVariants.{Free, Soft, Hard}
+use Rattle.uring_model.specs.Machine.{Op, Nop, Read, Write, Fsync, Ftruncate, Cancel, Refused}
+use Rattle.uring_model.specs.Jobs.{Job}
+
+-- what an entry asks
+
+-- a read or write without a loan, or with a part whose length is no result, is refused
+abbrev pub unless_lacking : Option Loan → Op → Op
+unless_lacking None op = Refused 21
+unless_lacking (Some l) op = cond (nat_lt 2147483647 (length (part_of (Some l)))) (Refused 21) op
+
+-- a file's number is the 32 bits of the descriptor word
+abbrev pub file_of : Entry → ℕ
+file_of e = cast_unsigned w32 e.fd
+
+-- Buffer selection isn't served; a cancel is served by number alone.
+abbrev pub op_of : Taken → Op
+op_of t =
+    cond (has_bit t.entry.flags 32) (Refused 94)
+    (cond (nat_eq t.entry.opcode 0) Nop
+    (cond (nat_eq t.entry.opcode 22) (unless_lacking t.loan (Read (file_of t.entry) t.entry.off))
+    (cond (nat_eq t.entry.opcode 23) (unless_lacking t.loan (Write (file_of t.entry) t.entry.off))
+    (cond (nat_eq t.entry.opcode 3) (Fsync (file_of t.entry))
+    (cond (nat_eq t.entry.opcode 55) (Ftruncate (file_of t.entry) t.entry.off)
+    (cond (nat_eq t.entry.opcode 14 && nat_eq t.entry.op 0) (Cancel t.entry.addr)
+    (Refused 94)))))))
+
+-- an entry with both link bits is read as soft
+abbrev pub link_of : ℕ → Link
+link_of flags = cond (has_bit flags 4) Soft (cond (has_bit flags 8) Hard Free)
+
+abbrev pub job_of : Taken → Job
+job_of t = record { op = op_of t; buf = part_of t.loan; drain = has_bit t.entry.flags 2; link = link_of t.entry.flags }
+

@@ -1,5 +1,0 @@
-use Rattle.uring_run.proofs.Journal.{journal_more}
-use Rattle.uring_run.proofs.run.journal_since.Goals as goal
-
-pub loop-place-preserved : goal.loop-place-preserved
-loop-place-preserved g c = journal_more _ _ _ _ _ _ c.loop-place.invariant c.log_event.ensures c.in_ok-push.ensures.items

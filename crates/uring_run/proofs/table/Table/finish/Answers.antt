@@ -1,9 +1,0 @@
-use Rattle.std.proofs.Common.{arith}
-use Rattle.uring_run.proofs.SlotLemmas.{count_of_done}
-use Rattle.uring_run.proofs.table.Table.finish.Goals as goal
-
-pub overflow_sub-self : goal.overflow_sub-self
-overflow_sub-self c = omega (arith, count_of_done c.args.self.now.slots.items c.args.place c.requires.0 c.args.outcome c.requires.1, c.args.self.now.counted)
-
-pub invariant_of-self-clause-counted : goal.invariant_of-self-clause-counted
-invariant_of-self-clause-counted c = omega (arith, count_of_done c.args.self.now.slots.items c.args.place c.requires.0 c.args.outcome c.requires.1, c.args.self.now.counted)
