@@ -1,7 +1,7 @@
 //! The lines of the table.
 
 use std::io;
-use uring_entry::squeue::Entry;
+use uring_base::squeue::Entry;
 use uring_large::squeue::Entry128;
 
 /// Writes a builder's name and the bytes of its entry in hex.

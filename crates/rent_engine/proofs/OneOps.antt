@@ -3,10 +3,10 @@ use Rattle.std.proofs.Common.{◌≡◌, ℕ, Bool, true, false, cond, List, [],
 use Rattle.std.specs.Ordering.{nat_cmp, eq_by_cmp}
 use Rattle.std.specs.Cmp.{nat_cmp_total, unsigned_tied}
 use Rattle.std.specs.FinMap.{get-insert}
-use Rattle.uring_entry.specs.declared.buffer.Buf.{Buf}
-use Rattle.uring_entry.specs.declared.events.Taken.{Taken}
-use Rattle.uring_entry.specs.declared.events.Completion.{Completion}
-use Rattle.uring_ring.specs.Lists.{Lists, Becomes}
+use Rattle.uring_base.specs.declared.buffer.Buf.{Buf}
+use Rattle.uring_base.specs.declared.events.Taken.{Taken}
+use Rattle.uring_base.specs.declared.events.Completion.{Completion}
+use Rattle.ring_traits.specs.Lists.{Lists, Becomes}
 use Rattle.rent_engine.specs.declared.state.Poll.TheVariants.{Ready, Pending}
 use Rattle.rent_engine.specs.declared.one_op.Offer.{Offer}
 use Rattle.rent_engine.specs.declared.one_op.Stage.{Stage}

@@ -1,10 +1,10 @@
 -- Completions that are reaped and taken one after another.
 use Rattle.std.proofs.Common.{◌≡◌, ℕ, ◌+◌, ◌-◌, ◌≤◌, min, Bool, true, false, not, cond, ◌||◌, T, List, [], ◌∷◌, ◌++◌, length, count_by, Option, Some, None, is_some, IfSome, Result, Ok, Err, inl, inr, refl, sym, ap, ◌∙◌, subst, append_assoc, append-nil, length-append, arith}
 use Rattle.std.proofs.lemmas.List.Sums.{fold-append}
-use Rattle.uring_entry.specs.declared.events.Taken.{Taken}
-use Rattle.uring_entry.specs.declared.events.Completion.{Completion}
-use Rattle.uring_entry.specs.Completions.{is_more, is_final}
-use Rattle.uring_ring.specs.Lists.{Lists, Becomes, WhereTold, Reaps, all_published, free_of}
+use Rattle.uring_base.specs.declared.events.Taken.{Taken}
+use Rattle.uring_base.specs.declared.events.Completion.{Completion}
+use Rattle.uring_base.specs.Completions.{is_more, is_final}
+use Rattle.ring_traits.specs.Lists.{Lists, Becomes, WhereTold, Reaps, all_published, free_of}
 use Rattle.rent_engine.specs.declared.ops.Step.{Step}
 use Rattle.rent_engine.specs.declared.ops.EngineFault.{EngineFault}
 use Rattle.rent_engine.specs.declared.ops.EngineFault.TheVariants.{Stranger, Fault}

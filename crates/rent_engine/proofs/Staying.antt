@@ -3,8 +3,8 @@ use Rattle.std.proofs.Common.{◌≡◌, ℕ, ◌==◌, Bool, true, false, not, 
 use Rattle.std.specs.Ordering.{nat_cmp}
 use Rattle.std.specs.Cmp.{nat_cmp_total, unsigned_tied}
 use Rattle.std.specs.FinMap.{FinMap, get, insert, remove, get-insert, get-remove}
-use Rattle.uring_entry.specs.declared.events.Completion.{Completion}
-use Rattle.uring_entry.specs.Completions.{is_more, is_final}
+use Rattle.uring_base.specs.declared.events.Completion.{Completion}
+use Rattle.uring_base.specs.Completions.{is_more, is_final}
 use Rattle.rent_engine.specs.declared.ops.Flight.{Flight}
 use Rattle.rent_engine.specs.declared.ops.OpDone.{OpDone}
 use Rattle.rent_engine.specs.declared.ops.EngineFault.TheVariants.{Stranger, Fault, NoMemory}

@@ -1,16 +1,16 @@
 -- What a contract sees of an engine, and what its calls do with the rings.
 use Rattle.std.specs.Prelude.{◌≡◌, ℕ, ◌+◌, ◌≤◌, min, Bool, true, false, refl, Option, Some, None, IfSome, Result, Ok, Err, List, [], ◌++◌, length, count_by}
 use Rattle.std.specs.Coded.{Coded, code_by, coded×, coded_ℕ}
-use Rattle.uring_entry.specs.declared.squeue.Entry.{Entry}
-use Rattle.uring_entry.specs.declared.buffer.Buf.{Buf}
-use Rattle.uring_entry.specs.declared.buffer.Loan.{Loan}
-use Rattle.uring_entry.specs.declared.events.Taken.{Taken}
-use Rattle.uring_entry.specs.declared.events.Completion.{Completion}
-use Rattle.uring_entry.specs.Completions.{is_final}
+use Rattle.uring_base.specs.declared.squeue.Entry.{Entry}
+use Rattle.uring_base.specs.declared.buffer.Buf.{Buf}
+use Rattle.uring_base.specs.declared.buffer.Loan.{Loan}
+use Rattle.uring_base.specs.declared.events.Taken.{Taken}
+use Rattle.uring_base.specs.declared.events.Completion.{Completion}
+use Rattle.uring_base.specs.Completions.{is_final}
 use Rattle.uring_ops_file.specs.Rows.{new_async_cancel, async_cancel_words}
 use Rattle.ring_setup.specs.declared.parameters.Parameters.{Parameters}
 use Rattle.ring_setup.specs.contracts.parameters.Parameters as parameters
-use Rattle.uring_ring.specs.Lists.{Lists, Becomes, WhereTold, free_of, small}
+use Rattle.ring_traits.specs.Lists.{Lists, Becomes, WhereTold, free_of, small}
 use Rattle.rent_engine.specs.declared.ops.OpKey.{OpKey}
 use Rattle.rent_engine.specs.declared.ops.StartFault.{StartFault}
 use Rattle.rent_engine.specs.declared.ops.StartFault.TheVariants.{KeyInUse, RingFull, NoMemory}

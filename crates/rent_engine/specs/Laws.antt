@@ -1,8 +1,8 @@
 -- What holds of operations over whole lists of completions.
 use Rattle.std.specs.Prelude.{◌≡◌, ◌≢◌, ℕ, Bool, true, false, ◌&&◌, ◌==◌, List, Some, None, Result}
 use Rattle.std.specs.List.{AllByRecursion}
-use Rattle.uring_entry.specs.declared.events.Completion.{Completion}
-use Rattle.uring_entry.specs.Completions.{is_final}
+use Rattle.uring_base.specs.declared.events.Completion.{Completion}
+use Rattle.uring_base.specs.Completions.{is_final}
 use Rattle.rent_engine.specs.declared.ops.Flight.{Flight}
 use Rattle.rent_engine.specs.declared.ops.EngineFault.{EngineFault}
 use Rattle.rent_engine.specs.Ops.{Ops, flight_at, done_at, knows, started, is_stranger, completed, taken_out, outcome, AreApart, Pumps}

@@ -1,8 +1,8 @@
 -- One operation, from its offer to its result.
 use Rattle.std.specs.Prelude.{◌≡◌, ℕ, ◌<◌, Bool, true, false, bit_or, List, [], ◌∷◌, Option, Some, None, is_some, ◌⊎◌}
-use Rattle.uring_entry.specs.declared.squeue.Entry.{Entry}
-use Rattle.uring_entry.specs.declared.buffer.Buf.{Buf}
-use Rattle.uring_entry.specs.declared.events.Taken.{Taken}
+use Rattle.uring_base.specs.declared.squeue.Entry.{Entry}
+use Rattle.uring_base.specs.declared.buffer.Buf.{Buf}
+use Rattle.uring_base.specs.declared.events.Taken.{Taken}
 use Rattle.rent_engine.specs.declared.ops.OpPoll.{OpPoll}
 use Rattle.rent_engine.specs.declared.ops.OpPoll.TheVariants as polls
 use Rattle.rent_engine.specs.declared.state.Poll.{Poll}

@@ -2,10 +2,10 @@
 use Rattle.std.specs.Prelude.{◌≡◌, ℕ, Bool, true, false, not, ◌&&◌, ◌||◌, ◌==◌, if◌then◌else◌, Option, Some, None, is_some, List, [], ◌∷◌, ◌⊎◌, Result, Ok, Err}
 use Rattle.std.specs.Ordering.{nat_cmp}
 use Rattle.std.specs.FinMap.{FinMap, empty, get, insert, remove}
-use Rattle.uring_entry.specs.declared.events.Completion.{Completion}
-use Rattle.uring_entry.specs.declared.buffer.Loan.{Loan}
-use Rattle.uring_entry.specs.Completions.{is_more, is_final}
-use Rattle.uring_entry.specs.Loans.{loan_buf}
+use Rattle.uring_base.specs.declared.events.Completion.{Completion}
+use Rattle.uring_base.specs.declared.buffer.Loan.{Loan}
+use Rattle.uring_base.specs.Completions.{is_more, is_final}
+use Rattle.uring_base.specs.Loans.{loan_buf}
 use Rattle.rent_engine.specs.declared.ops.Flight.{Flight}
 use Rattle.rent_engine.specs.declared.ops.OpDone.{OpDone}
 use Rattle.rent_engine.specs.declared.ops.Step.{Step}

@@ -1,11 +1,11 @@
 -- What one turn does with the rings, the partner and the operations.
 use Rattle.std.specs.Prelude.{◌≡◌, ℕ, List, [], length, Option, IfSome, IfOk, Result, Ok, Err}
-use Rattle.uring_entry.specs.declared.events.Taken.{Taken}
-use Rattle.uring_entry.specs.declared.events.Completion.{Completion}
-use Rattle.uring_entry.specs.declared.events.LogEvent.{LogEvent}
+use Rattle.uring_base.specs.declared.events.Taken.{Taken}
+use Rattle.uring_base.specs.declared.events.Completion.{Completion}
+use Rattle.uring_base.specs.declared.events.LogEvent.{LogEvent}
 use Rattle.uring_model.specs.Schedule.{Machine, State}
 use Rattle.ring_setup.specs.declared.parameters.Parameters.{Parameters}
-use Rattle.uring_ring.specs.Lists.{Lists, Becomes, all_published}
+use Rattle.ring_traits.specs.Lists.{Lists, Becomes, all_published}
 use Rattle.uring_submit.specs.declared.error.SubmitError.{SubmitError}
 use Rattle.uring_submit.specs.declared.error.SubmitError.TheVariants as submit
 use Rattle.uring_submit.specs.Decisions.{wanted_call}

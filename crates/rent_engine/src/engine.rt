@@ -3,17 +3,18 @@
 ghost use Rattle.std.specs.Prelude.{◌≡◌, ◌+◌, ◌<◌, ◌≤◌, ◌==◌, ◌&&◌, not, ℕ, true, false, [], ◌∷◌, length, min, Some, None, OnOk, OnErr, IfErr, IfOk, IfSome, is_some, is_ok, if◌then◌else◌};
 ghost use Rattle.std.specs.FinMap.{len};
 ghost use Rattle.rent_engine.specs.Ops.{no_ops, flight_at, knows, started, is_stranger, has_strange_loan, completed, step_of, polled, taken_out, resolved_as, AreApart, outcome};
-ghost use Rattle.uring_entry.specs.Loans.{loan_buf};
+ghost use Rattle.uring_base.specs.Loans.{loan_buf};
 ghost use Rattle.rent_engine.specs.Engines.{asked, asked_cancel, loan_of, Offered, Pumped, ending, finals_in, fault_buf, is_key_in_use, is_ring_full, is_no_memory, is_fault};
 
 use crate::operations::Operations;
 use crate::ops::{EngineFault, OpDone, OpKey, OpPoll, StartFault, Step, TurnReport};
 use std::alloc::Global;
 use std::marker::Model;
-use uring_entry::squeue::Entry;
-use uring_entry::{Buf, Completion, Loan, cqueue};
+use uring_base::squeue::Entry;
+use uring_base::{Buf, Completion, Loan, cqueue};
 use uring_ops_file::AsyncCancel;
-use uring_ring::{Parameters, UserEnds};
+use ring_setup::Parameters;
+use ring_traits::UserEnds;
 use uring_submit::Submitter;
 
 /// A pair of rings, and the operations that were started on it.

@@ -1,8 +1,8 @@
 //! One operation, from its offer to its result.
 
 ghost use Rattle.std.specs.Prelude.{◌≡◌, ◌+◌, ◌≤◌, ℕ, not, false, List, None};
-ghost use Rattle.uring_entry.specs.declared.events.Taken.{Taken};
-ghost use Rattle.uring_entry.specs.FlagBits.{bits_in};
+ghost use Rattle.uring_base.specs.declared.events.Taken.{Taken};
+ghost use Rattle.uring_base.specs.FlagBits.{bits_in};
 ghost use Rattle.rent_engine.specs.Engines.{Offered};
 ghost use Rattle.rent_engine.specs.OneOp.{addressed, numbered, flagged, stage_key, stage_offers, stage_over, IsItsNumber, OneStep};
 ghost use Rattle.rent_engine.specs.States.{is_pending, waits_on, KeepsInFlight};
@@ -13,9 +13,9 @@ use crate::state::{OpState, Poll};
 use std::alloc::Global;
 use std::marker::Model;
 use std::mem;
-use uring_entry::Buf;
-use uring_entry::squeue::{Entry, Flags};
-use uring_ring::UserEnds;
+use uring_base::Buf;
+use uring_base::squeue::{Entry, Flags};
+use ring_traits::UserEnds;
 
 /// An operation that is still to be offered: its number, if one was given, its entry, and the
 /// buffer that it lends.

@@ -1,7 +1,7 @@
 //! Operations, and what comes of them.
 
 use std::marker::Model;
-use uring_entry::Buf;
+use uring_base::Buf;
 
 /// An operation that was started and isn't resolved.
 #[derive(Clone, Copy, PartialEq, Eq, Debug)]

@@ -1,7 +1,7 @@
 //! States of one operation, by what they give.
 
 ghost use Rattle.std.specs.Prelude.{◌≡◌, ◌+◌, ◌≤◌, not, false, List, None};
-ghost use Rattle.uring_entry.specs.FlagBits.{bits_in};
+ghost use Rattle.uring_base.specs.FlagBits.{bits_in};
 ghost use Rattle.rent_engine.specs.OneOp.{flagged, numbered, stage_key, stage_offers, stage_over};
 
 use crate::engine::Engine;
@@ -9,9 +9,9 @@ use crate::one_op::{OneAnswer, OneOp};
 use crate::state::{OpState, Poll};
 use std::alloc::Global;
 use std::marker::{Model, PhantomData};
-use uring_entry::Buf;
-use uring_entry::squeue::{Entry, Flags};
-use uring_ring::UserEnds;
+use uring_base::Buf;
+use uring_base::squeue::{Entry, Flags};
+use ring_traits::UserEnds;
 
 /// What a state of one operation gives: an output, by what became of its operation.
 pub trait Kind {
@@ -80,7 +80,7 @@ impl<K> Single<K> {
 }
 
 impl<K: Kind> OpState for Single<K> {
-    ghost use Rattle.uring_entry.specs.declared.events.Taken.{Taken};
+    ghost use Rattle.uring_base.specs.declared.events.Taken.{Taken};
     ghost use Rattle.rent_engine.specs.Engines.{Offered};
     ghost use Rattle.rent_engine.specs.OneOp.{PollsAs};
     ghost use Rattle.rent_engine.specs.States.{is_pending, waits_on, KeepsInFlight, IfReady};

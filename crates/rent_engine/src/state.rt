@@ -5,7 +5,7 @@ ghost use Rattle.rent_engine.specs.States.{is_pending};
 
 use crate::engine::Engine;
 use std::alloc::Global;
-use uring_ring::UserEnds;
+use ring_traits::UserEnds;
 
 /// What a poll answers.
 #[derive(Drop)]
@@ -29,7 +29,7 @@ impl<T> Poll<T> {
 /// where it isn't done, has an operation to offer, and the submission ring was full as last seen.
 pub trait OpState {
     ghost use Rattle.std.specs.Prelude.{◌≡◌, ◌+◌, ◌≤◌, ℕ, Bool, not, false, List, Option};
-    ghost use Rattle.uring_entry.specs.declared.events.Taken.{Taken};
+    ghost use Rattle.uring_base.specs.declared.events.Taken.{Taken};
     ghost use Rattle.rent_engine.specs.declared.state.Poll.{Poll};
     ghost use Rattle.rent_engine.specs.Ops.{Ops};
     ghost use Rattle.rent_engine.specs.Engines.{Offered};

@@ -1,8 +1,8 @@
 //! One turn with a partner.
 
 ghost use Rattle.std.specs.Prelude.{◌≡◌, ◌≤◌, ◌^◌, ◌<◌, true, IfErr, IfOk, IfSome, IsTrue, OnOk, Contains};
-ghost use Rattle.uring_entry.specs.Causes.{HasCause};
-ghost use Rattle.partner_calls.specs.Calls.{later_plan};
+ghost use Rattle.uring_base.specs.Causes.{HasCause};
+ghost use Rattle.partner_traits.specs.Calls.{later_plan};
 ghost use Rattle.uring_submit.specs.Errors.{is_fault as is_submit_fault, is_of_partner};
 ghost use Rattle.rent_engine.specs.Engines.{is_fault};
 ghost use Rattle.rent_engine.specs.Turns.{Turned, Submitted, fault_of};
@@ -10,8 +10,8 @@ ghost use Rattle.rent_engine.specs.Turns.{Turned, Submitted, fault_of};
 use crate::engine::Engine;
 use crate::ops::{EngineFault, TurnReport};
 use std::alloc::Global;
-use partner_calls::Partner;
-use uring_ring::{PartnerSide, UserEnds};
+use partner_traits::Partner;
+use ring_traits::{PartnerSide, UserEnds};
 use uring_submit::SubmitError;
 
 impl<R: UserEnds + PartnerSide> Engine<R> {

@@ -1,8 +1,8 @@
 -- The entries of the states of files.
 use Rattle.std.specs.Prelude.{ℕ}
-use Rattle.uring_entry.specs.declared.squeue.Entry.{Entry}
-use Rattle.uring_entry.specs.declared.fsync_flags.FsyncFlags.{FsyncFlags}
-use Rattle.uring_entry.specs.declared.types.Target.TheVariants.{Fixed}
+use Rattle.uring_base.specs.declared.squeue.Entry.{Entry}
+use Rattle.uring_base.specs.declared.fsync_flags.FsyncFlags.{FsyncFlags}
+use Rattle.uring_base.specs.declared.types.Target.TheVariants.{Fixed}
 use Rattle.uring_ops_file.specs.Rows.{new_fsync, fsync_words, new_read, read_words, new_write, write_words}
 
 -- a read of so many bytes of a registered file into a loan, from a position on

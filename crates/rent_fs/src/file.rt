@@ -8,8 +8,8 @@ ghost use Rattle.rent_fs.specs.Entries.{no_flags, read_entry, sync_entry, write_
 use crate::read_at::{ReadAt, read_at};
 use crate::syncs::{Sync, sync_all, sync_data};
 use crate::write_at::{WriteAt, write_at};
-use uring_entry::Buf;
-use uring_entry::types::FsyncFlags;
+use uring_base::Buf;
+use uring_base::types::FsyncFlags;
 
 /// A file that a partner has under a number.
 #[derive(Clone, Copy, PartialEq, Eq, Debug)]

@@ -6,7 +6,7 @@ ghost use Rattle.rent_fs.specs.Outputs.{counted, moved, or_empty, with_buf, IsSm
 use crate::error::FsError;
 use rent_engine::{OneAnswer, OpDone};
 use std::alloc::Global;
-use uring_entry::Buf;
+use uring_base::Buf;
 
 /// The count, or the errno of a negative result.
 fn count_of(code: i32) -> Result<usize, FsError>

@@ -8,7 +8,7 @@ use crate::error::FsError;
 use crate::synced::synced;
 use rent_engine::{Kind, OneAnswer, Single};
 use std::alloc::Global;
-use uring_entry::types::{Fixed, FsyncFlags};
+use uring_base::types::{Fixed, FsyncFlags};
 use uring_ops_file::Fsync;
 
 /// A sync of a file. Its output is that it is done, or why it isn't.

@@ -8,8 +8,8 @@ use crate::error::FsError;
 use crate::moved::moved;
 use rent_engine::{Kind, OneAnswer, Single};
 use std::alloc::Global;
-use uring_entry::Buf;
-use uring_entry::types::Fixed;
+use uring_base::Buf;
+use uring_base::types::Fixed;
 use uring_ops_file::Write;
 
 /// A write at a position. Its output is the count, and the buffer as it came back.

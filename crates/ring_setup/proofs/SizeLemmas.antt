@@ -5,7 +5,7 @@ use Rattle.std.proofs.Math.Nat.{pow-suc, mul_assoc, mul_comm, mul-le-mul_left}
 use Rattle.std.proofs.lemmas.Nat.{pow_pos}
 use Rattle.std.proofs.lemmas.Bool.{eq-eqb}
 use Rattle.std.specs.Prelude.{◌||◌, nat_eq}
-use Rattle.uring_entry.specs.Sizes.{up_from, rounded_up, is_valid_size}
+use Rattle.uring_base.specs.Sizes.{up_from, rounded_up, is_valid_size}
 use Rattle.ring_core.specs.Positions.{is_doubled, is_ring_size}
 use Rattle.ring_core.proofs.PositionLemmas.{le_or_lt}
 

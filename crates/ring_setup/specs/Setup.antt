@@ -1,7 +1,7 @@
 -- The sizes and bits of a ring, by its settings.
 use Rattle.std.specs.Prelude.{◌≡◌, ◌⊎◌, ◌<◌, ℕ, ℤ, pos, ◌+◌, ◌-◌, ◌*◌, ◌^◌, Bool, true, false, Option, Some, None, min, bit_or, if◌then◌else◌}
-use Rattle.uring_entry.specs.FlagBits.{has_bit}
-use Rattle.uring_entry.specs.Sizes.{rounded_up, is_valid_size}
+use Rattle.uring_base.specs.FlagBits.{has_bit}
+use Rattle.uring_base.specs.Sizes.{rounded_up, is_valid_size}
 use Rattle.ring_setup.specs.declared.settings.Settings.{Settings}
 use Rattle.ring_setup.specs.declared.parameters.Parameters.{Parameters}
 

@@ -1,7 +1,7 @@
 //! What a ring is asked to be, and the size rule.
 
 ghost use Rattle.std.specs.Prelude.{◌≡◌, ◌≤◌, nat_lt, nat_le, ◌&&◌, true, false, IfOk, IfErr};
-ghost use Rattle.uring_entry.specs.Sizes.{rounded_up, is_valid_size};
+ghost use Rattle.uring_base.specs.Sizes.{rounded_up, is_valid_size};
 ghost use Rattle.ring_core.specs.Positions.{is_ring_size};
 ghost use Rattle.ring_setup.specs.Setup.{told_entries, told_completions, default_settings, is_buildable, parameters_for, parameters_of_sizes, cut, setup_word};
 

@@ -3,8 +3,8 @@
 use crate::{IN_ROUND, Passed};
 use std::alloc::{AllocError, Global};
 use std::collections::VecDeque;
-use uring_entry::squeue::Entry;
-use uring_entry::{Completion, Taken};
+use uring_base::squeue::Entry;
+use uring_base::{Completion, Taken};
 
 /// Entries on their way to the other end, and completions on their way back.
 #[derive(Drop)]

@@ -1,9 +1,10 @@
 //! A round through a pair of rings.
 
 use crate::{IN_ROUND, Passed};
-use uring_entry::Completion;
-use uring_entry::squeue::Entry;
-use uring_ring::{IoUring, PartnerSide};
+use uring_base::Completion;
+use uring_base::squeue::Entry;
+use ring_traits::PartnerSide;
+use uring_ring::IoUring;
 
 /// Pushes as many entries as fit, and publishes them.
 pub(crate) fn push(ring: &mut IoUring, first: u64) {

@@ -4,8 +4,8 @@ use Rattle.std.specs.Int.{w32, cast_signed, cast_unsigned}
 use Rattle.std.specs.List.{AllByRecursion}
 use Rattle.std.proofs.lemmas.Bool.Decides.{nat_tests}
 use Rattle.std.proofs.lemmas.Int.{of_z-to_z}
-use Rattle.uring_entry.specs.declared.buffer.Loan.{Loan}
-use Rattle.uring_entry.specs.declared.events.Taken.{Taken}
+use Rattle.uring_base.specs.declared.buffer.Loan.{Loan}
+use Rattle.uring_base.specs.declared.events.Taken.{Taken}
 use Rattle.uring_model.specs.declared.jobs.Job.{Job}
 use Rattle.uring_model.specs.declared.jobs.JobKind.{JobKind}
 use Rattle.uring_model.specs.declared.jobs.JobKind.TheVariants.{Nop, Read, Write, Fsync, Ftruncate, Cancel}
@@ -16,11 +16,11 @@ use Rattle.uring_model.specs.Jobs as model
 use Rattle.uring_model.specs.Jobs.{asked, all_asked, buf_lent, op_asked, is_valid_job}
 use Rattle.uring_model.specs.Replay.{last_unlinked}
 use Rattle.uring_model.specs.Partner.{job_of, unless_lacking}
-use Rattle.uring_model.specs.World.{is_six, IsSix}
+use Rattle.uring_model.specs.World.{is_job_operation, IsJobEntry}
 use Rattle.uring_model.specs.Explained.{Numbered}
 use Rattle.uring_model.specs.Strange.{has_other_number}
 use Rattle.uring_model.specs.Honest.{HasOwnLoan}
-use Rattle.uring_ring.specs.Lists.{small}
+use Rattle.ring_traits.specs.Lists.{small}
 use Rattle.run_loop.specs.Entries.{words_of, with_drain, with_link, loan_of, offer_of, offers_from, all_taken, reply_in, AllValid, IsInRange, AllInRange}
 use Rattle.run_loop.specs.Told.{reply_for, lends}
 use Rattle.run_loop.specs.declared.slot.Reply.{Reply}
@@ -89,7 +89,7 @@ asks_all n [] v r = refl
 asks_all n (job ∷ []) v r = ap (λ x. x ∷ []) (asks_marked n job.kind job.drain Free (valid_fits job v.0) r.0)
 asks_all n (job ∷ next ∷ jobs) v r = λ i. asks_one n job v.0 r.0 i ∷ asks_all (n + 1) (next ∷ jobs) v.1 r.1 i
 
-six_kind : (kind : JobKind) → is_six (op_asked kind) ≡ true
+six_kind : (kind : JobKind) → is_job_operation (op_asked kind) ≡ true
 six_kind Nop = refl
 six_kind (Read file offset buf) = refl
 six_kind (Write file offset buf) = refl
@@ -97,10 +97,10 @@ six_kind (Fsync file) = refl
 six_kind (Ftruncate file len) = refl
 six_kind (Cancel target) = refl
 
-pub six_all : (n : ℕ) (jobs : List Job) → AllValid jobs → AllInRange jobs → AllByRecursion IsSix (all_taken (offers_from n jobs))
+pub six_all : (n : ℕ) (jobs : List Job) → AllValid jobs → AllInRange jobs → AllByRecursion IsJobEntry (all_taken (offers_from n jobs))
 six_all n [] v r = tt
-six_all n (job ∷ []) v r = (ap (λ x. is_six x.op) (asks_marked n job.kind job.drain Free (valid_fits job v.0) r.0) ∙ six_kind job.kind, tt)
-six_all n (job ∷ next ∷ jobs) v r = (ap (λ x. is_six x.op) (asks_one n job v.0 r.0) ∙ six_kind job.kind, six_all (n + 1) (next ∷ jobs) v.1 r.1)
+six_all n (job ∷ []) v r = (ap (λ x. is_job_operation x.op) (asks_marked n job.kind job.drain Free (valid_fits job v.0) r.0) ∙ six_kind job.kind, tt)
+six_all n (job ∷ next ∷ jobs) v r = (ap (λ x. is_job_operation x.op) (asks_one n job v.0 r.0) ∙ six_kind job.kind, six_all (n + 1) (next ∷ jobs) v.1 r.1)
 
 pub numbered_all : (n : ℕ) (jobs : List Job) → Numbered n (all_taken (offers_from n jobs))
 numbered_all n [] = tt

@@ -4,9 +4,9 @@ use Rattle.std.proofs.lemmas.Bool.Decides.{nat_tests}
 use Rattle.std.specs.Ordering.{nat_cmp, eq_by_cmp}
 use Rattle.std.specs.Cmp.{nat_cmp_total, unsigned_tied, eq_by_cmp_equiv}
 use Rattle.std.specs.FinMap.{FinMap, get, insert, remove, get-insert, get-remove}
-use Rattle.uring_entry.specs.declared.buffer.Loan.{Loan}
-use Rattle.uring_entry.specs.declared.events.Completion.{Completion}
-use Rattle.uring_entry.specs.Completions.{is_final}
+use Rattle.uring_base.specs.declared.buffer.Loan.{Loan}
+use Rattle.uring_base.specs.declared.events.Completion.{Completion}
+use Rattle.uring_base.specs.Completions.{is_final}
 use Rattle.uring_model.specs.Strange.{has_other_number, has_wrong_loan}
 use Rattle.rent_engine.specs.declared.ops.Flight.{Flight}
 use Rattle.rent_engine.specs.declared.ops.OpDone.{OpDone}

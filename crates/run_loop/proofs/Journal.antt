@@ -2,8 +2,8 @@
 use Rattle.std.proofs.Common.{◌≡◌, ℕ, ◌+◌, zero, suc, List, [], ◌∷◌, ◌++◌, map, drop, Option, Some, None, IfSome, slice_get, ap, sym, ◌∙◌, arith, append_assoc}
 use Rattle.std.specs.Option.{option_map}
 use Rattle.std.proofs.lemmas.Option.{same_Some}
-use Rattle.uring_entry.specs.declared.events.Event.{Event}
-use Rattle.uring_entry.specs.declared.events.LogEvent.{LogEvent}
+use Rattle.uring_base.specs.declared.events.Event.{Event}
+use Rattle.uring_base.specs.declared.events.LogEvent.{LogEvent}
 use Rattle.uring_model.specs.Moves.{event_of}
 
 front : (log : List LogEvent) (place : ℕ) (event : Event) → option_map event_of (slice_get log place) ≡ Some event → map event_of (drop place log) ≡ event ∷ map event_of (drop (place + 1) log)

@@ -1,9 +1,9 @@
 -- A ring that was just made.
 use Rattle.std.proofs.Common.{◌≡◌, ℕ, ◌*◌, ◌<◌, zero, suc, Bool, true, false, cond, nat_le, [], Option, Some, refl, ap, sym, subst, arith}
-use Rattle.uring_entry.specs.Sizes.{up_from, rounded_up}
+use Rattle.uring_base.specs.Sizes.{up_from, rounded_up}
 use Rattle.uring_ring.specs.declared.io_uring.IoUring.{IoUring}
 use Rattle.uring_ring.specs.IoUring.{lists_of, entries_in, IsOpened}
-use Rattle.uring_ring.specs.Lists.{Lists}
+use Rattle.ring_traits.specs.Lists.{Lists}
 use Rattle.run_loop.specs.Rounds.{IsCalm}
 
 pub opened_calm : {S C : Type 0} (ring : IoUring S C) (cap posts start : ℕ) → IsOpened ring cap posts start → (l : Lists) × (◌≡◌ {A = Option Lists} (Some (lists_of ring)) (Some l)) × IsCalm l (entries_in ring).spare × (l.published ≡ [])

@@ -1,19 +1,19 @@
 -- A partner whose files are told, and which began idle, posts a final completion in each turn of a run.
 use Rattle.std.proofs.Common.{◌≡◌, ℕ, ◌+◌, ◌<◌, ◌⊎◌, inl, inr, zero, suc, Bool, true, false, cond, List, [], ◌∷◌, ◌++◌, length, map, Option, Some, None, refl, ap, sym, subst, ◌∙◌, arith, length-append}
-use Rattle.uring_entry.specs.declared.events.Taken.{Taken}
-use Rattle.uring_entry.specs.declared.events.Completion.{Completion}
-use Rattle.uring_entry.specs.Completions.{is_final}
+use Rattle.uring_base.specs.declared.events.Taken.{Taken}
+use Rattle.uring_base.specs.declared.events.Completion.{Completion}
+use Rattle.uring_base.specs.Completions.{is_final}
 use Rattle.uring_model.specs.Chosen.{choice, stops}
 use Rattle.uring_model.specs.Moves.{Move, Turned, Took, Posted, took, posted}
 use Rattle.uring_model.specs.Machine.{Files}
 use Rattle.uring_model.specs.Schedule.{Machine, State, Cursor, cursors, named, Steps, IsServed, after_take, cut_of, Outturn, turn, take_all, settle_turn, settle_then, settled_by, stays}
-use Rattle.uring_model.specs.Viewed.{seen, IsIdle}
+use Rattle.uring_model.specs.Refines.{seen, IsIdle}
 use Rattle.uring_model.specs.Schedule as schedule
-use Rattle.uring_model.specs.World.{IsSix}
+use Rattle.uring_model.specs.Asks.{IsJobEntry}
 use Rattle.std.specs.List.{AllByRecursion}
 use Rattle.uring_model.specs.Progress.{moves_of_turn}
-use Rattle.uring_ring.specs.Lists.{Lists, room_of}
-use Rattle.partner_calls.specs.Calls.{IsTurnOf}
+use Rattle.ring_traits.specs.Lists.{Lists, room_of}
+use Rattle.partner_traits.specs.Calls.{IsTurnOf}
 use Rattle.run_loop.specs.declared.slot.Slot.{Slot}
 use Rattle.run_loop.specs.Laws.{ModelLaws}
 use Rattle.run_loop.specs.Slots.{count_open, is_stranger, land_one, land_all, stranger_among, any_final}
@@ -23,11 +23,11 @@ pub served_some : {W : Type 0} (mach : Machine W) (a : State W) (ms : List Move)
 served_some mach a ms None h = absurd (h tt)
 served_some mach a ms (Some b) h = (b, refl, h)
 
-pub six_front : (xs ys : List Taken) → AllByRecursion IsSix (xs ++ ys) → AllByRecursion IsSix xs
+pub six_front : (xs ys : List Taken) → AllByRecursion IsJobEntry (xs ++ ys) → AllByRecursion IsJobEntry xs
 six_front [] ys h = tt
 six_front (x ∷ xs) ys h = (h.0, six_front xs ys h.1)
 
-pub six_back : (xs ys : List Taken) → AllByRecursion IsSix (xs ++ ys) → AllByRecursion IsSix ys
+pub six_back : (xs ys : List Taken) → AllByRecursion IsJobEntry (xs ++ ys) → AllByRecursion IsJobEntry ys
 six_back [] ys h = h
 six_back (x ∷ xs) ys h = six_back xs ys h.1
 
@@ -78,17 +78,17 @@ pub same_turn : (p q : ℕ) (rest : List Move) (ts : List Taken) (cs : List Comp
 same_turn p q rest ts cs ms e f = let h : ◌≡◌ {A = List Move} (Turned p ∷ rest) (moves_of_turn q ts cs) = sym e ∙ f in cc
 
 -- a turn of such a partner posts, while a job is open
-pub turn_pays : {W : Type 0} (mach : Machine W) (view : W → Files) (Plain : W → Type 0) (laws : ModelLaws mach view Plain) (a b : State W) (run ms rest : List Move) (at : Lists) (n p capacity unfinished : ℕ) → IsIdle Plain a → Steps mach true a run b → AllByRecursion IsSix (took run) → (w : IsTurnOf mach b at ms) → AllByRecursion IsSix w.ts → ms ≡ Turned p ∷ rest
+pub turn_pays : {W : Type 0} (mach : Machine W) (view : W → Files) (Plain : W → Type 0) (laws : ModelLaws mach view Plain) (a b : State W) (run ms rest : List Move) (at : Lists) (n p capacity unfinished : ℕ) → IsIdle Plain a → Steps mach true a run b → AllByRecursion IsJobEntry (took run) → (w : IsTurnOf mach b at ms) → AllByRecursion IsJobEntry w.ts → ms ≡ Turned p ∷ rest
     → (p ≡ capacity) ⊎ (length (took run) + p ≡ n) → 0 < capacity → 0 < room_of at → unfinished + length (posted run) ≡ n → 0 < unfinished
     → 0 < length (turn mach w.ts (room_of at) b).posts
 turn_pays mach view Plain laws a b run ms rest at n p capacity unfinished idle steps six w six_ts moves full cap room count left =
     let number : p ≡ length w.ts = same_turn p (length w.ts) rest w.ts (turn mach w.ts (room_of at) b).posts ms moves w.moves in
-    let s = laws.world.steps_seen true a b run (record { world = idle.plain; pending = subst (AllByRecursion (λ i. IsSix i.taken)) (sym idle.pending) tt }) six steps in
-    let kept : length (posted run) + length b.pending ≡ length a.pending + length (took run) = laws.none_lost true (seen view a) (seen view b) run s.0 in
+    let s = laws.world.steps_seen true a b run (record { world = idle.plain; pending = subst (AllByRecursion (λ i. IsJobEntry i.taken)) (sym idle.pending) tt }) six steps in
+    let kept : length (posted run) + length b.pending ≡ length a.pending + length (took run) = laws.none_lost true (viewed view a) (viewed view b) run s.0 in
     let none : length a.pending ≡ 0 = ap length idle.pending in
-    let taken = take_count (seen view b) w.ts in
-    let some : 0 < length (take_all (seen view b) w.ts).pending = elim full [
+    let taken = take_count (viewed view b) w.ts in
+    let some : 0 < length (take_all (viewed view b) w.ts).pending = elim full [
       | inl e ↦ omega (arith, number, cap, e, taken)
       | inr e ↦ omega (arith, number, e, kept, none, taken, count, left)
     ] in
-    subst (λ l. 0 < length l) (sym (laws.world.turns_seen (room_of at) w.ts b s.1 six_ts).0) (laws.some_posts (room_of at) w.ts (seen view b) some room)
+    subst (λ l. 0 < length l) (sym (laws.world.turns_seen (room_of at) w.ts b s.1 six_ts).0) (laws.some_posts (room_of at) w.ts (viewed view b) some room)

@@ -1,10 +1,10 @@
 -- Completions that an engine takes one after another, and the slots of their jobs.
 use Rattle.std.proofs.Common.{◌≡◌, ℕ, Bool, true, false, ◌||◌, not, cond, nat_eq, nat_lt, List, [], ◌∷◌, Result, Ok, Err, Option, Some, None, is_some, IfSome, inl, inr, slice_get, slice_set, refl, ap, sym, subst, ◌∙◌}
 use Rattle.std.specs.FinMap.{insert, remove}
-use Rattle.uring_entry.specs.declared.buffer.Loan.{Loan}
-use Rattle.uring_entry.specs.declared.events.Completion.{Completion}
-use Rattle.uring_entry.specs.Completions.{is_more, is_final}
-use Rattle.uring_entry.specs.Loans.{loan_buf}
+use Rattle.uring_base.specs.declared.buffer.Loan.{Loan}
+use Rattle.uring_base.specs.declared.events.Completion.{Completion}
+use Rattle.uring_base.specs.Completions.{is_more, is_final}
+use Rattle.uring_base.specs.Loans.{loan_buf}
 use Rattle.rent_engine.specs.declared.ops.Flight.{Flight}
 use Rattle.rent_engine.specs.declared.ops.EngineFault.{EngineFault}
 use Rattle.rent_engine.specs.declared.ops.EngineFault.TheVariants.{Stranger, Fault, NoMemory}

@@ -5,11 +5,11 @@ use Rattle.std.specs.FinMap.{get}
 use Rattle.std.specs.Option.{option_map}
 use Rattle.std.proofs.lemmas.Bool.Decides.{nat_tests}
 use Rattle.std.proofs.lemmas.Option.{same_Some}
-use Rattle.uring_entry.specs.declared.buffer.Loan.{Loan}
-use Rattle.uring_entry.specs.declared.events.Completion.{Completion}
-use Rattle.uring_entry.specs.declared.events.LogEvent.{LogEvent}
-use Rattle.uring_entry.specs.Completions.{is_final}
-use Rattle.uring_entry.specs.Loans.{part_of, with_part, loan_buf}
+use Rattle.uring_base.specs.declared.buffer.Loan.{Loan}
+use Rattle.uring_base.specs.declared.events.Completion.{Completion}
+use Rattle.uring_base.specs.declared.events.LogEvent.{LogEvent}
+use Rattle.uring_base.specs.Completions.{is_final}
+use Rattle.uring_base.specs.Loans.{part_of, with_part, loan_buf}
 use Rattle.uring_model.specs.declared.jobs.Job.{Job}
 use Rattle.uring_model.specs.declared.jobs.JobKind.{JobKind}
 use Rattle.uring_model.specs.declared.jobs.JobKind.TheVariants.{Nop, Read, Write, Fsync, Ftruncate, Cancel}
@@ -94,7 +94,7 @@ pub steps_final : (over : Bool) (a b : PartnerState) (ms : List Move) → Steps 
 steps_final over a b [] h = tt
 steps_final over a b (Turned p ∷ ms) h = steps_final false a b ms h
 steps_final over a b (Took t ∷ ms) h = steps_final false (after_take a t) b ms h.1
-steps_final over a b (Posted c ∷ ms) h = (ap (λ x. is_final x.flags) h.1.completion, steps_final (stops (choice a.choices)) (after_settle a h.1.cursor (answer_to a.files h.1.cursor)) b ms h.2)
+steps_final over a b (Posted c ∷ ms) h = (ap (λ x. is_final x.flags) h.1.completion, steps_final (stops (choice a.choices)) (after_settle a h.1.cursor (answer_to a.world h.1.cursor)) b ms h.2)
 
 -- no open slot: each outcome is set
 set_one : (reply : Reply) (o : Option Ending) (slots : List Slot) → count_open (told_slot reply o ∷ slots) ≡ 0 → IsSome (option_map told o) × (count_open slots ≡ 0)

@@ -1,7 +1,7 @@
 -- What offers make of the lists of a ring, one after another.
 use Rattle.std.proofs.Common.{List, [], ◌++◌, Option, Some, None, refl, ap, sym, subst, ◌∙◌, append_assoc, append-nil}
-use Rattle.uring_entry.specs.declared.events.Taken.{Taken}
-use Rattle.uring_ring.specs.Lists.{Lists, Becomes}
+use Rattle.uring_base.specs.declared.events.Taken.{Taken}
+use Rattle.ring_traits.specs.Lists.{Lists, Becomes}
 use Rattle.run_loop.specs.Rounds.{pushed_more}
 
 pub offers-none : (a : Option Lists) → Becomes a (pushed_more []) a

@@ -4,16 +4,16 @@ use Rattle.std.specs.Bool.{OnTrue}
 use Rattle.std.specs.Result.{is_err}
 use Rattle.std.proofs.lemmas.Bool.Decides.{nat_tests}
 use Rattle.std.proofs.lemmas.List.Recursion.{is_count_by}
-use Rattle.uring_entry.specs.declared.events.Taken.{Taken}
-use Rattle.uring_entry.specs.declared.events.Completion.{Completion}
-use Rattle.uring_entry.specs.declared.events.LogEvent.{LogEvent}
-use Rattle.uring_entry.specs.Completions.{is_final}
+use Rattle.uring_base.specs.declared.events.Taken.{Taken}
+use Rattle.uring_base.specs.declared.events.Completion.{Completion}
+use Rattle.uring_base.specs.declared.events.LogEvent.{LogEvent}
+use Rattle.uring_base.specs.Completions.{is_final}
 use Rattle.uring_model.specs.Moves.{Move, took, posted}
 use Rattle.uring_model.specs.Schedule as schedule
 use Rattle.uring_model.specs.declared.jobs.RunFault.{RunFault}
 use Rattle.ring_setup.specs.declared.parameters.Parameters.{Parameters}
-use Rattle.uring_ring.specs.Lists.{Lists, Moves, HasRoom, WhereTold, Becomes, all_published, free_of}
-use Rattle.partner_calls.specs.Calls.{IsCall, IsWholeTurn}
+use Rattle.ring_traits.specs.Lists.{Lists, Moves, HasRoom, WhereTold, Becomes, all_published, free_of}
+use Rattle.partner_traits.specs.Calls.{IsCall, IsWholeTurn}
 use Rattle.uring_submit.specs.declared.error.SubmitError.{SubmitError}
 use Rattle.uring_submit.specs.declared.error.SubmitError.TheVariants as submit
 use Rattle.rent_engine.specs.declared.ops.EngineFault.{EngineFault}

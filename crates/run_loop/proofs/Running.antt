@@ -2,9 +2,9 @@
 use Rattle.std.proofs.Common.{◌≡◌, ℕ, ◌+◌, ◌-◌, ◌*◌, ◌<◌, ◌≤◌, ◌⊎◌, inl, inr, zero, suc, Bool, true, false, cond, List, [], ◌∷◌, ◌++◌, length, map, Result, Ok, Err, Option, Some, None, IfSome, IsTrue, refl, ap, sym, subst, ◌∙◌, arith, append_assoc, length-append}
 use Rattle.std.proofs.lemmas.List.{length-map}
 use Rattle.std.proofs.Math.Nat.{mul-le-mul_left, mul-le-mul_right, mul-suc, suc-mul}
-use Rattle.uring_entry.specs.declared.events.Taken.{Taken}
-use Rattle.uring_entry.specs.declared.events.Completion.{Completion}
-use Rattle.uring_entry.specs.declared.events.LogEvent.{LogEvent}
+use Rattle.uring_base.specs.declared.events.Taken.{Taken}
+use Rattle.uring_base.specs.declared.events.Completion.{Completion}
+use Rattle.uring_base.specs.declared.events.LogEvent.{LogEvent}
 use Rattle.uring_model.specs.declared.jobs.RunFault.{RunFault}
 use Rattle.uring_model.specs.declared.jobs.RunFault.TheVariants as faults
 use Rattle.uring_model.specs.Replay.{IsBusy}
@@ -12,16 +12,16 @@ use Rattle.uring_model.specs.Moves.{Move, Turned, Took, Posted, took, posted, lo
 use Rattle.uring_model.specs.Machine.{Files}
 use Rattle.uring_model.specs.Schedule as schedule
 use Rattle.uring_model.specs.Schedule.{turn, take_all}
-use Rattle.uring_model.specs.Viewed.{IsIdle}
+use Rattle.uring_model.specs.Refines.{IsIdle}
 use Rattle.uring_model.specs.Progress.{turns}
 use Rattle.std.specs.List.{AllByRecursion}
-use Rattle.uring_model.specs.World.{IsSix}
+use Rattle.uring_model.specs.Asks.{IsJobEntry}
 use Rattle.uring_model.specs.Honest.{TakesWithinTurns}
 use Rattle.uring_model.specs.Strange.{nothing_seen, first_strange}
-use Rattle.uring_ring.specs.Lists.{Lists, IsKept, HasRoom, all_published, free_of, room_of, small}
+use Rattle.ring_traits.specs.Lists.{Lists, IsKept, HasRoom, all_published, free_of, room_of, small}
 use Rattle.run_loop.proofs.Prompt.{six_front, six_back, took_turn, served_some, AllFinal, turn_final, final_any, each_lands, turn_pays}
 use Rattle.std.specs.Bool.{OnTrue}
-use Rattle.partner_calls.specs.Calls.{IsCall, IsTurn, IsTurnOf, IsWholeTurn}
+use Rattle.partner_traits.specs.Calls.{IsCall, IsTurn, IsTurnOf, IsWholeTurn}
 use Rattle.run_loop.specs.declared.entries.Offer.{Offer}
 use Rattle.run_loop.specs.declared.slot.Slot.{Slot}
 use Rattle.run_loop.specs.Entries.{all_taken, lends_in}
@@ -52,7 +52,7 @@ pub record Running {W : Type 0} (mach : schedule.Machine W) (view : W → Files)
   pub quiet_is : quiet ≡ quiet_turns 0 (log_of ms)
   pub started_is : started ≡ length (took ms) + length l.published
   pub holds : (0 < l.capacity) × (0 < l.completion_capacity)
-  pub six : AllByRecursion IsSix (all_taken offers)
+  pub six : AllByRecursion IsJobEntry (all_taken offers)
   pub prompt : (a : schedule.State W) → state first ≡ Some a → IsIdle Plain a → (quiet ≡ 0) × (count_open slots + length (posted ms) ≡ length offers) × (turns ms ≤ length (posted ms))
 
 -- turns that begin with the ring full or all offers pushed
@@ -331,11 +331,11 @@ next_prompt mach view Plain log state lists kept first now new from to room todo
     let holds = x.run.holds in
     let room_is : 0 < room_of x.round.at = omega (arith, at_room, none, holds.1) in
     let whole = next_entries mach view Plain log state lists kept first now new from to room todo todo' started started' slots slots' offers capacity idle quiet (Ok fin) x in
-    let took_all : AllByRecursion IsSix (took (x.run.ms ++ x.round.ms)) = six_front (took (x.run.ms ++ x.round.ms)) (x.round.after.published ++ todo') (subst (AllByRecursion IsSix) (sym whole) x.run.six) in
-    let took_both : AllByRecursion IsSix (took x.run.ms ++ took x.round.ms) = subst (AllByRecursion IsSix) (x.laws.join.takes x.run.ms x.round.ms) took_all in
-    let six_run : AllByRecursion IsSix (took x.run.ms) = six_front (took x.run.ms) (took x.round.ms) took_both in
+    let took_all : AllByRecursion IsJobEntry (took (x.run.ms ++ x.round.ms)) = six_front (took (x.run.ms ++ x.round.ms)) (x.round.after.published ++ todo') (subst (AllByRecursion IsJobEntry) (sym whole) x.run.six) in
+    let took_both : AllByRecursion IsJobEntry (took x.run.ms ++ took x.round.ms) = subst (AllByRecursion IsJobEntry) (x.laws.join.takes x.run.ms x.round.ms) took_all in
+    let six_run : AllByRecursion IsJobEntry (took x.run.ms) = six_front (took x.run.ms) (took x.round.ms) took_both in
     let takes : took x.round.ms ≡ w.ts = ap took w.moves ∙ took_turn w.ts cs in
-    let six_ts : AllByRecursion IsSix w.ts = subst (AllByRecursion IsSix) takes (six_back (took x.run.ms) (took x.round.ms) took_both) in
+    let six_ts : AllByRecursion IsJobEntry w.ts = subst (AllByRecursion IsJobEntry) takes (six_back (took x.run.ms) (took x.round.ms) took_both) in
     let pays = turn_pays mach view Plain x.laws a b.0 x.run.ms x.round.ms c.rest x.round.at (length offers) c.p x.run.l.capacity (count_open slots) is_idle b.2 six_run w six_ts c.moves c.full holds.0 room_is q.1 x.unfinished in
     let final : AllFinal (posted x.round.ms) = subst AllFinal (sym posts) (turn_final mach (room_of x.round.at) (take_all b.0 w.ts)) in
     let yes : fin ≡ true = next_fin mach view Plain log state lists kept first now new from to room todo todo' started started' slots slots' offers capacity idle quiet fin x ∙ final_any (posted x.round.ms) final (subst (λ l. 0 < length l) (sym posts) pays) in
@@ -434,7 +434,7 @@ whole_end mach view Plain log state lists first now ring room todo started slots
 
 -- the beginning
 pub running_first : {W : Type 0} (mach : schedule.Machine W) (view : W → Files) (Plain : W → Type 0) {P R : Type 0} (log : P → Option (List LogEvent)) (state : P → Option (schedule.State W)) (lists : R → Option Lists) (first : P) (ring : R) (room : ℕ) (todo : List Taken) (started : ℕ) (slots : List Slot) (offers : List Offer) (capacity idle : ℕ)
-    → ModelLaws mach view Plain → (l : Lists) → lists ring ≡ Some l → IsCalm l room → l.published ≡ [] → l.capacity ≡ capacity → todo ≡ all_taken offers → slots ≡ slots_from 0 offers [] → started ≡ 0 → (0 < l.capacity) × (0 < l.completion_capacity) → AllByRecursion IsSix (all_taken offers)
+    → ModelLaws mach view Plain → (l : Lists) → lists ring ≡ Some l → IsCalm l room → l.published ≡ [] → l.capacity ≡ capacity → todo ≡ all_taken offers → slots ≡ slots_from 0 offers [] → started ≡ 0 → (0 < l.capacity) × (0 < l.completion_capacity) → AllByRecursion IsJobEntry (all_taken offers)
     → Running mach view Plain log state lists first first ring room todo started slots offers capacity idle 0
 running_first mach view Plain log state lists first ring room todo started slots offers capacity idle laws l told calm none size entries told_slots begun holds six = record {
   ms = [];

@@ -3,9 +3,9 @@ use Rattle.std.proofs.Common.{◌≡◌, ℕ, ◌*◌, ◌<◌, ◌≤◌, Bool,
 use Rattle.std.specs.List.{AllByRecursion}
 use Rattle.std.proofs.lemmas.List.Elements.{All-from_recursion, recursion_from_All}
 use Rattle.std.proofs.Math.Seq.{drop-append_seam}
-use Rattle.uring_entry.specs.declared.events.Event.{Event}
-use Rattle.uring_entry.specs.declared.events.LogEvent.{LogEvent}
-use Rattle.uring_entry.specs.declared.events.Taken.{Taken}
+use Rattle.uring_base.specs.declared.events.Event.{Event}
+use Rattle.uring_base.specs.declared.events.LogEvent.{LogEvent}
+use Rattle.uring_base.specs.declared.events.Taken.{Taken}
 use Rattle.uring_model.specs.declared.jobs.Job.{Job}
 use Rattle.uring_model.specs.declared.jobs.Outcome.{Outcome}
 use Rattle.uring_model.specs.declared.jobs.Report.{Report}
@@ -19,8 +19,8 @@ use Rattle.uring_model.specs.Partner.{job_of, idle}
 use Rattle.uring_model.specs.Partner as filed
 use Rattle.uring_model.specs.Machine.{Files}
 use Rattle.uring_model.specs.Schedule as schedule
-use Rattle.uring_model.specs.Viewed.{seen, IsIdle}
-use Rattle.uring_model.specs.World.{IsSix}
+use Rattle.uring_model.specs.Refines.{seen, IsIdle}
+use Rattle.uring_model.specs.Asks.{IsJobEntry}
 use Rattle.uring_model.specs.Progress.{turns}
 use Rattle.uring_model.specs.Explained.{Numbered, record_all, AllFresh, Explained}
 use Rattle.uring_model.specs.Honest.{HasOwnLoan}
@@ -73,8 +73,8 @@ abbrev replies_at : List Job → ℕ → Reply
 replies_at jobs = reply_in (offers_from 0 jobs)
 
 pub record FromIdle (jobs : List Job) (a b : filed.PartnerState) (ms : List Move) : Type 0 where
-  pub explained : Explained (all_asked jobs) a.files a.choices ms b
-  pub steps : filed.Steps false (idle a.files a.choices) ms b
+  pub explained : Explained (all_asked jobs) a.world a.choices ms b
+  pub steps : filed.Steps false (idle a.world a.choices) ms b
   pub honest : first_strange (lends_at jobs) nothing_seen (log_of ms) ≡ None
   pub told : AllByRecursion (λ c. answers (replies_at jobs) c ≡ true) (posted ms)
   pub restful : IsWhole explained.state → filed.IsIdle b
@@ -85,31 +85,31 @@ front_of P [] ys h = tt
 front_of P (x ∷ xs) ys h = (h.0, front_of P xs ys h.1)
 
 pub from_idle : {W : Type 0} (mach : schedule.Machine W) (view : W → Files) (Plain : W → Type 0) {P : Type 0} (laws : ModelLaws mach view Plain) (log : P → Option (List LogEvent)) (state : P → Option (schedule.State W)) (old new : P) (jobs : List Job) (capacity bound : ℕ) (d : Driven mach log state old new (offers_from 0 jobs) capacity bound) → AllValid jobs → AllInRange jobs → (a : schedule.State W) → state old ≡ Some a → IsIdle Plain a
-    → (b : schedule.State W) × (state new ≡ Some b) × FromIdle jobs (seen view a) (seen view b) d.moves × Plain b.files
+    → (b : schedule.State W) × (state new ≡ Some b) × FromIdle jobs (viewed view a) (viewed view b) d.moves × Plain b.world
 from_idle mach view Plain laws log state old new jobs capacity bound d valid range a told rests =
     let served = served_some mach a d.moves (state new) (subst (λ o. schedule.IsServed mach o d.moves (state new)) told d.states) in
     let b = served.0 in
     let same_jobs : map job_of (took d.moves ++ d.ahead) ≡ last_unlinked (all_asked jobs) = ap (map job_of) d.entries ∙ asks_all 0 jobs valid range in
     let numbered : Numbered 0 (took d.moves ++ d.ahead) = subst (Numbered 0) (sym d.entries) (numbered_all 0 jobs) in
-    let six : AllByRecursion IsSix (took d.moves) = six_front (took d.moves) d.ahead (subst (AllByRecursion IsSix) (sym d.entries) (six_all 0 jobs valid range)) in
-    let files = laws.world.steps_seen true a b d.moves (record { world = rests.plain; pending = subst (AllByRecursion (λ i. IsSix i.taken)) (sym rests.pending) tt }) six served.2 in
-    let calls : filed.IsServed (Some (seen view a)) d.moves (Some (seen view b)) = files.0 in
-    let resting : filed.IsIdle (seen view a) = record { pending = rests.pending; tail = rests.tail } in
-    let steps = laws.idle_moves (seen view a) (seen view b) d.moves resting calls in
+    let six : AllByRecursion IsJobEntry (took d.moves) = six_front (took d.moves) d.ahead (subst (AllByRecursion IsJobEntry) (sym d.entries) (six_all 0 jobs valid range)) in
+    let files = laws.world.steps_seen true a b d.moves (record { world = rests.plain; pending = subst (AllByRecursion (λ i. IsJobEntry i.taken)) (sym rests.pending) tt }) six served.2 in
+    let calls : filed.IsServed (Some (viewed view a)) d.moves (Some (viewed view b)) = files.0 in
+    let resting : filed.IsIdle (viewed view a) = record { pending = rests.pending; tail = rests.tail } in
+    let steps = laws.idle_moves (viewed view a) (viewed view b) d.moves resting calls in
     let own : AllByRecursion (HasOwnLoan (lends_at jobs)) (took d.moves ++ d.ahead) = subst (AllByRecursion (HasOwnLoan (lends_at jobs))) (sym d.entries) (own_all (replies_at jobs) (lends_at jobs) (λ j. refl) 0 jobs (replies_first jobs)) in
     let asked : AllByRecursion (λ t. asks (replies_at jobs) t ≡ true) (took d.moves ++ d.ahead) = subst (AllByRecursion (λ t. asks (replies_at jobs) t ≡ true)) (sym d.entries) (asks_list (replies_at jobs) 0 jobs (replies_first jobs) valid range) in
-    let explained = laws.explained (all_asked jobs) d.moves d.ahead (seen view a) (seen view b) resting same_jobs numbered calls in (
+    let explained = laws.explained (all_asked jobs) d.moves d.ahead (viewed view a) (viewed view b) resting same_jobs numbered calls in (
       b,
       served.1,
       record {
         explained = explained;
         steps = steps;
-        honest = laws.honest (lends_at jobs) (all_asked jobs) (view a.files) a.choices d.moves d.ahead (seen view b) same_jobs numbered steps (All-from_recursion (HasOwnLoan (lends_at jobs)) (took d.moves) (front_of (HasOwnLoan (lends_at jobs)) (took d.moves) d.ahead own)) d.within;
+        honest = laws.honest (lends_at jobs) (all_asked jobs) (view a.world) a.choices d.moves d.ahead (viewed view b) same_jobs numbered steps (All-from_recursion (HasOwnLoan (lends_at jobs)) (took d.moves) (front_of (HasOwnLoan (lends_at jobs)) (took d.moves) d.ahead own)) d.within;
         told =
             recursion_from_All (λ c. answers (replies_at jobs) c ≡ true) (posted d.moves)
-            (laws.answers (asks (replies_at jobs)) (answers (replies_at jobs)) (view a.files) a.choices d.moves (seen view b) (answered (replies_at jobs)) steps
+            (laws.answers (asks (replies_at jobs)) (answers (replies_at jobs)) (view a.world) a.choices d.moves (viewed view b) (answered (replies_at jobs)) steps
             (All-from_recursion (λ t. asks (replies_at jobs) t ≡ true) (took d.moves) (front_of (λ t. asks (replies_at jobs) t ≡ true) (took d.moves) d.ahead asked)));
-        restful = λ w. laws.restful (all_asked jobs) (view a.files) a.choices d.moves d.ahead (seen view b) explained.state same_jobs numbered steps explained.replays w;
+        restful = λ w. laws.restful (all_asked jobs) (view a.world) a.choices d.moves d.ahead (viewed view b) explained.state same_jobs numbered steps explained.replays w;
       },
       files.1.world,
     )
@@ -127,7 +127,7 @@ stranger_not (faults.BadJob n) jobs bound log g h = refl
 some_told : {A : Type 0} (o : Option A) (a : A) (P : A → Type 0) → IfSome o P → o ≡ Some a → P a
 some_told o a P h e = subst (λ x. IfSome x P) e h
 
-fault_explains : {W : Type 0} (view : W → Files) (Plain : W → Type 0) (jobs : List Job) (a b : schedule.State W) (ms : List Move) (e : RunFault) → FromIdle jobs (seen view a) (seen view b) ms → is_stranger_fault e ≡ false → is_stall e ≡ false → Explains view Plain (all_asked jobs) a ms b (Err e)
+fault_explains : {W : Type 0} (view : W → Files) (Plain : W → Type 0) (jobs : List Job) (a b : schedule.State W) (ms : List Move) (e : RunFault) → FromIdle jobs (viewed view a) (viewed view b) ms → is_stranger_fault e ≡ false → is_stall e ≡ false → Explains view Plain (all_asked jobs) a ms b (Err e)
 fault_explains view Plain jobs a b ms e f honest prompt = record {
   end = f.explained.state;
   replays = f.explained.replays;
@@ -157,7 +157,7 @@ whole_results jobs a b ms f =
     let first : replicate (length (all_asked jobs)) None ≡ results_from 0 (offers_from 0 jobs) [] = ap (λ k. replicate k None) n ∙ sym (results_first 0 (offers_from 0 jobs)) in
     f.explained.outcomes
     ∙ ap (λ t. record_all t (posted ms)) first
-    ∙ record_results (offers_from 0 jobs) [] (posted ms) (steps_final false (idle a.files a.choices) b ms f.steps) (subst (λ t. AllFresh t (posted ms)) first f.explained.fresh)
+    ∙ record_results (offers_from 0 jobs) [] (posted ms) (steps_final false (idle a.world a.choices) b ms f.steps) (subst (λ t. AllFresh t (posted ms)) first f.explained.fresh)
 
 pub answered_by : (jobs : List Job) (ms : List Move) (os : List Outcome) → first_strange (lends_at jobs) nothing_seen (log_of ms) ≡ None → map (λ o. Done o) os ≡ slots_from 0 (offers_from 0 jobs) (posted ms) → IsAnswered jobs (log_of ms) os
 answered_by jobs ms os honest slots = record {
@@ -165,10 +165,10 @@ answered_by jobs ms os honest slots = record {
   outcomes = outcomes_of_slots jobs ms os slots;
 }
 
-whole_explains : {W : Type 0} (mach : schedule.Machine W) (view : W → Files) (Plain : W → Type 0) (laws : ModelLaws mach view Plain) (jobs : List Job) (a b : schedule.State W) (ms : List Move) (report : Report) → FromIdle jobs (seen view a) (seen view b) ms → Plain b.files → count_open (slots_from 0 (offers_from 0 jobs) (posted ms)) ≡ 0 → map (λ o. Some o) report.outcomes.items ≡ outcomes_from 0 jobs (log_of ms) → turns ms ≤ length jobs
+whole_explains : {W : Type 0} (mach : schedule.Machine W) (view : W → Files) (Plain : W → Type 0) (laws : ModelLaws mach view Plain) (jobs : List Job) (a b : schedule.State W) (ms : List Move) (report : Report) → FromIdle jobs (viewed view a) (viewed view b) ms → Plain b.world → count_open (slots_from 0 (offers_from 0 jobs) (posted ms)) ≡ 0 → map (λ o. Some o) report.outcomes.items ≡ outcomes_from 0 jobs (log_of ms) → turns ms ≤ length jobs
     → Explains view Plain (all_asked jobs) a ms b (Ok report)
 whole_explains mach view Plain laws jobs a b ms report f plain none answers few =
-    let results = whole_results jobs (seen view a) (seen view b) ms f in
+    let results = whole_results jobs (viewed view a) (viewed view b) ms f in
     let set : All IsSome (table f.explained.state) = subst (All IsSome) (sym results) (All-from_recursion IsSome (results_from 0 (offers_from 0 jobs) (posted ms)) (all_set 0 (offers_from 0 jobs) (posted ms) none)) in
     let whole = laws.whole f.explained.state set in
     record {

@@ -1,6 +1,6 @@
 -- Slots and their counts.
 use Rattle.std.proofs.Common.{◌≡◌, ℕ, zero, suc, Bool, true, false, ◌||◌, not, nat_lt, List, [], ◌∷◌, length, Option, Some, None, slice_get, slice_set, refl, ap}
-use Rattle.uring_entry.specs.declared.events.Completion.{Completion}
+use Rattle.uring_base.specs.declared.events.Completion.{Completion}
 use Rattle.uring_model.specs.declared.jobs.Job.{Job}
 use Rattle.uring_model.specs.declared.jobs.Outcome.{Outcome}
 use Rattle.run_loop.specs.declared.slot.Reply.{Reply}

@@ -1,12 +1,12 @@
 -- Jobs that are started, and those that are ahead.
 use Rattle.std.proofs.Common.{◌≡◌, ℕ, ◌+◌, ◌<◌, suc, ◌⊎◌, inl, inr, bit_or, Bool, true, false, ◌||◌, not, cond, nat_eq, nat_lt, List, [], ◌∷◌, ◌++◌, Option, Some, None, is_some, IfSome, slice_get, slice_set, refl, ap, sym, subst, ◌∙◌, arith}
 use Rattle.std.proofs.lemmas.Bool.Decides.{nat_tests}
-use Rattle.uring_entry.specs.declared.events.Completion.{Completion}
+use Rattle.uring_base.specs.declared.events.Completion.{Completion}
 use Rattle.rent_engine.specs.declared.ops.Flight.{Flight}
 use Rattle.std.specs.Ordering.{nat_cmp}
 use Rattle.std.specs.FinMap.{get-empty}
 use Rattle.rent_engine.specs.Ops.{Ops, no_ops, flight_at, done_at, knows, started}
-use Rattle.uring_entry.specs.declared.squeue.Entry.{Entry}
+use Rattle.uring_base.specs.declared.squeue.Entry.{Entry}
 use Rattle.uring_model.specs.declared.jobs.Link.{Link}
 use Rattle.uring_model.specs.declared.jobs.Link.TheVariants.{Free, Soft, Hard}
 use Rattle.run_loop.specs.Steps.{mark_bits, with_marks}
@@ -19,7 +19,7 @@ use Rattle.run_loop.specs.declared.slot.Reply.{Reply}
 use Rattle.run_loop.specs.declared.slot.Reply.TheVariants.{Plain}
 use Rattle.run_loop.specs.declared.slot.Slot.{Slot}
 use Rattle.run_loop.specs.declared.slot.Slot.TheVariants.{Open, Done}
-use Rattle.uring_entry.specs.Completions.{is_final}
+use Rattle.uring_base.specs.Completions.{is_final}
 use Rattle.run_loop.specs.Told.{Ending, reply_for, lends, outcome_from}
 use Rattle.run_loop.specs.Entries.{words_of, with_drain, with_link, entry_of, loan_of, offer_of, unlinked_if, offers_from}
 use Rattle.run_loop.specs.Slots.{slots_from, is_strange_at, is_stranger, land_in, land_one, land_all, stranger_among}

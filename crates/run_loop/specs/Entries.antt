@@ -1,9 +1,9 @@
 -- The entry and the loan that each job becomes.
 use Rattle.std.specs.Prelude.{◌≡◌, ℕ, zero, suc, ◌+◌, ◌<◌, ◌^◌, Bool, true, false, if◌then◌else◌, List, [], ◌∷◌, length, map, bit_or, Option, Some, None}
-use Rattle.uring_entry.specs.declared.squeue.Entry.{Entry}
-use Rattle.uring_entry.specs.declared.buffer.Loan.{Loan}
-use Rattle.uring_entry.specs.declared.events.Taken.{Taken}
-use Rattle.uring_entry.specs.declared.types.Target.TheVariants.{Fixed}
+use Rattle.uring_base.specs.declared.squeue.Entry.{Entry}
+use Rattle.uring_base.specs.declared.buffer.Loan.{Loan}
+use Rattle.uring_base.specs.declared.events.Taken.{Taken}
+use Rattle.uring_base.specs.declared.types.Target.TheVariants.{Fixed}
 use Rattle.uring_ops_file.specs.Rows.{new_nop, nop_words, new_fsync, fsync_words, new_async_cancel, async_cancel_words, new_read, read_words, new_write, write_words, new_ftruncate, ftruncate_words}
 use Rattle.uring_model.specs.declared.jobs.Link.{Link}
 use Rattle.uring_model.specs.declared.jobs.Link.TheVariants.{Free, Soft, Hard}
@@ -11,7 +11,7 @@ use Rattle.uring_model.specs.declared.jobs.Job.{Job}
 use Rattle.uring_model.specs.declared.jobs.JobKind.{JobKind}
 use Rattle.uring_model.specs.declared.jobs.JobKind.TheVariants.{Nop, Read, Write, Fsync, Ftruncate, Cancel}
 use Rattle.uring_model.specs.Jobs.{asked, is_valid_job}
-use Rattle.uring_ring.specs.Lists.{small}
+use Rattle.ring_traits.specs.Lists.{small}
 use Rattle.run_loop.specs.declared.entries.Offer.{Offer}
 use Rattle.run_loop.specs.declared.slot.Reply.{Reply}
 use Rattle.run_loop.specs.declared.slot.Reply.TheVariants.{Plain}

@@ -5,7 +5,7 @@ use Rattle.uring_model.specs.Progress.{TurnsPost, NoneIsLost}
 use Rattle.uring_model.specs.Ends.{WholeWhereSet, IdleWhereWhole}
 use Rattle.uring_model.specs.Machine.{Files}
 use Rattle.uring_model.specs.Schedule.{Machine}
-use Rattle.uring_model.specs.Viewed.{WorldLaws}
+use Rattle.uring_model.specs.Refines.{WorldLaws}
 use Rattle.uring_model.specs.Honest.{NoPostIsStrange, PostsAnswer}
 
 pub record ModelLaws {W : Type 0} (mach : Machine W) (view : W → Files) (Plain : W → Type 0) : Type 0 where

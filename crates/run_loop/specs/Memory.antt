@@ -10,7 +10,7 @@ use Rattle.uring_model.specs.Chosen.{IsChosen}
 use Rattle.uring_model.specs.Moves.{Move, journal_of, log_of}
 use Rattle.uring_model.specs.Machine.{Files}
 use Rattle.uring_model.specs.Schedule as schedule
-use Rattle.uring_model.specs.Viewed.{IsIdle}
+use Rattle.uring_model.specs.Refines.{IsIdle}
 use Rattle.uring_model.specs.Progress.{turns}
 use Rattle.run_loop.specs.Rounds.{is_stall, is_stranger_fault}
 
@@ -36,8 +36,8 @@ pub record IsWholeRun {W : Type 0} (Plain : W → Type 0) (jobs : List Job) (end
 -- replay's files are those that it has then. The answer is never a stranger or a stall.
 pub record Explains {W : Type 0} (view : W → Files) (Plain : W → Type 0) (jobs : List Job) (before : schedule.State W) (moves : List Move) (after : schedule.State W) (result : Result Report RunFault) : Type 0 where
   pub end : State
-  pub replays : replay jobs (view before.files) (journal_of (log_of moves)) ≡ Some end
-  pub chosen : IsChosen (journal_of (log_of moves)) before.choices false (first_state jobs (view before.files))
-  pub files : end.files ≡ view after.files
+  pub replays : replay jobs (view before.world) (journal_of (log_of moves)) ≡ Some end
+  pub chosen : IsChosen (journal_of (log_of moves)) before.choices false (first_state jobs (view before.world))
+  pub files : end.files ≡ view after.world
   pub report : IfOk result (λ r. IsWholeRun Plain jobs end after moves r.outcomes.items)
   pub fault : IfErr result (λ e. (is_stranger_fault e ≡ false) × (is_stall e ≡ false))

@@ -1,19 +1,19 @@
 -- What one round of a run does to the ring, the partner and the table.
 use Rattle.std.specs.Prelude.{◌≡◌, ◌≤◌, ◌⊎◌, ℕ, Bool, true, false, List, [], ◌++◌, length, map, Result, Ok, Err, Option, Some, None}
 use Rattle.std.specs.Bool.{OnTrue}
-use Rattle.uring_entry.specs.declared.events.Taken.{Taken}
-use Rattle.uring_entry.specs.declared.events.Completion.{Completion}
-use Rattle.uring_entry.specs.declared.events.LogEvent.{LogEvent}
+use Rattle.uring_base.specs.declared.events.Taken.{Taken}
+use Rattle.uring_base.specs.declared.events.Completion.{Completion}
+use Rattle.uring_base.specs.declared.events.LogEvent.{LogEvent}
 use Rattle.uring_model.specs.declared.jobs.RunFault.{RunFault}
 use Rattle.uring_model.specs.declared.jobs.RunFault.TheVariants.{BadSize, BadJob, Stranger, Stalled, PartnerFault, NoMemory}
 use Rattle.uring_model.specs.Moves.{Move, took, posted, IsLogged}
 use Rattle.uring_model.specs.Schedule as schedule
-use Rattle.uring_ring.specs.Lists.{Lists, HasRoom, all_published, free_of}
-use Rattle.partner_calls.specs.declared.call.PartnerError.{PartnerError}
-use Rattle.partner_calls.specs.declared.call.PartnerError.TheVariants as errors
+use Rattle.ring_traits.specs.Lists.{Lists, HasRoom, all_published, free_of}
+use Rattle.partner_traits.specs.declared.call.PartnerError.{PartnerError}
+use Rattle.partner_traits.specs.declared.call.PartnerError.TheVariants as errors
 use Rattle.rent_engine.specs.declared.ops.EngineFault.{EngineFault}
 use Rattle.rent_engine.specs.declared.ops.EngineFault.TheVariants as faults
-use Rattle.partner_calls.specs.Calls.{IsCall, IsWholeTurn}
+use Rattle.partner_traits.specs.Calls.{IsCall, IsWholeTurn}
 use Rattle.run_loop.specs.declared.slot.Slot.{Slot}
 use Rattle.run_loop.specs.Slots.{land_all, stranger_among, any_final}
 

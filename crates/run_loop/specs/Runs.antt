@@ -1,8 +1,8 @@
 -- What a run of jobs promises over every partner.
 use Rattle.std.specs.Prelude.{◌≡◌, ℕ, ◌+◌, ◌*◌, ◌≤◌, ◌<◌, true, if◌then◌else◌, List, [], ◌∷◌, ◌++◌, length, map, Result, Option, Some, None, IfOk, IfErr, IfSome}
 use Rattle.std.specs.Option.{option_map}
-use Rattle.uring_entry.specs.declared.events.Taken.{Taken}
-use Rattle.uring_entry.specs.declared.events.LogEvent.{LogEvent}
+use Rattle.uring_base.specs.declared.events.Taken.{Taken}
+use Rattle.uring_base.specs.declared.events.LogEvent.{LogEvent}
 use Rattle.uring_model.specs.declared.jobs.Job.{Job}
 use Rattle.uring_model.specs.declared.jobs.Outcome.{Outcome}
 use Rattle.uring_model.specs.declared.jobs.Report.{Report}
@@ -10,11 +10,11 @@ use Rattle.uring_model.specs.declared.jobs.RunFault.{RunFault}
 use Rattle.uring_model.specs.declared.jobs.RunFault.TheVariants.{BadSize, BadJob, Stranger, Stalled, PartnerFault, NoMemory}
 use Rattle.uring_model.specs.Replay.{IsBusy}
 use Rattle.uring_model.specs.Moves.{Move, took, journal_of, log_of, IsLogged}
-use Rattle.uring_entry.specs.Sizes.{is_valid_size}
+use Rattle.uring_base.specs.Sizes.{is_valid_size}
 use Rattle.uring_model.specs.Jobs.{all_asked}
 use Rattle.uring_model.specs.Machine.{Files}
 use Rattle.uring_model.specs.Schedule as schedule
-use Rattle.uring_model.specs.Viewed.{IsIdle}
+use Rattle.uring_model.specs.Refines.{IsIdle}
 use Rattle.uring_model.specs.Progress.{turns}
 use Rattle.uring_model.specs.Honest.{TakesWithinTurns}
 use Rattle.uring_model.specs.Strange.{nothing_seen, first_strange}

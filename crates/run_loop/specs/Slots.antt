@@ -1,7 +1,7 @@
 -- The table of a run: a slot for each job.
 use Rattle.std.specs.Prelude.{ℕ, suc, ◌+◌, Bool, true, false, ◌||◌, ◌&&◌, not, cond, if◌then◌else◌, nat_lt, nat_eq, List, [], ◌∷◌, map, Option, Some, None, slice_get, slice_set}
-use Rattle.uring_entry.specs.declared.events.Completion.{Completion}
-use Rattle.uring_entry.specs.Completions.{is_final}
+use Rattle.uring_base.specs.declared.events.Completion.{Completion}
+use Rattle.uring_base.specs.Completions.{is_final}
 use Rattle.uring_model.specs.Strange.{has_other_number, has_wrong_loan}
 use Rattle.uring_model.specs.declared.jobs.Job.{Job}
 use Rattle.run_loop.specs.Told.{Ending, reply_for, lends, outcome_from}

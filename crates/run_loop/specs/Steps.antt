@@ -1,7 +1,7 @@
 -- How a job's operation is begun and polled.
 use Rattle.std.specs.Prelude.{◌≡◌, ℕ, ◌+◌, Bool, true, bit_or, if◌then◌else◌, [], ◌∷◌, Option, Some, is_some, IfSome}
-use Rattle.uring_entry.specs.declared.squeue.Entry.{Entry}
-use Rattle.uring_ring.specs.Lists.{Lists, Becomes, small}
+use Rattle.uring_base.specs.declared.squeue.Entry.{Entry}
+use Rattle.ring_traits.specs.Lists.{Lists, Becomes, small}
 use Rattle.uring_model.specs.declared.jobs.JobKind.{JobKind}
 use Rattle.uring_model.specs.declared.jobs.Link.{Link}
 use Rattle.uring_model.specs.declared.jobs.Link.TheVariants.{Free, Soft, Hard}

@@ -1,9 +1,9 @@
 -- What a log tells of the jobs of a run.
 use Rattle.std.specs.Prelude.{ℕ, suc, ◌&&◌, Bool, true, false, if◌then◌else◌, nat_eq, List, [], ◌∷◌, ℤ, pos, negsuc, Option, Some, None}
-use Rattle.uring_entry.specs.declared.buffer.Loan.{Loan}
-use Rattle.uring_entry.specs.declared.events.LogEvent.{LogEvent}
-use Rattle.uring_entry.specs.declared.events.LogEvent.TheVariants.{Turn, Take, Post}
-use Rattle.uring_entry.specs.Loans.{loan_buf}
+use Rattle.uring_base.specs.declared.buffer.Loan.{Loan}
+use Rattle.uring_base.specs.declared.events.LogEvent.{LogEvent}
+use Rattle.uring_base.specs.declared.events.LogEvent.TheVariants.{Turn, Take, Post}
+use Rattle.uring_base.specs.Loans.{loan_buf}
 use Rattle.uring_model.specs.declared.jobs.JobKind.{JobKind}
 use Rattle.uring_model.specs.declared.jobs.JobKind.TheVariants.{Nop, Read, Write, Fsync, Ftruncate, Cancel}
 use Rattle.uring_model.specs.declared.jobs.Outcome.{Outcome}

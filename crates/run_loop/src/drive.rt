@@ -1,15 +1,15 @@
 //! A run, round by round.
 
 ghost use Rattle.std.specs.Prelude.{◌≡◌, ◌+◌, ◌<◌, ◌≤◌, ◌^◌, ℕ, cond, false, List, [], None, Some, MatchResult, IfErr, IfSome, IsTrue, Contains, length};
-ghost use Rattle.uring_entry.specs.Causes.{HasCause};
+ghost use Rattle.uring_base.specs.Causes.{HasCause};
 ghost use Rattle.uring_model.specs.Moves.{posted, log_of};
 ghost use Rattle.uring_model.specs.Schedule.{State};
-ghost use Rattle.uring_model.specs.Viewed.{IsIdle};
+ghost use Rattle.uring_model.specs.Refines.{IsIdle};
 ghost use Rattle.std.specs.List.{AllByRecursion};
-ghost use Rattle.uring_model.specs.World.{IsSix};
+ghost use Rattle.uring_model.specs.Asks.{IsJobEntry};
 ghost use Rattle.uring_model.specs.Progress.{turns};
 ghost use Rattle.uring_model.specs.Strange.{nothing_seen, first_strange};
-ghost use Rattle.uring_ring.specs.Lists.{Lists};
+ghost use Rattle.ring_traits.specs.Lists.{Lists};
 ghost use Rattle.run_loop.specs.Entries.{all_taken, lends_in};
 ghost use Rattle.run_loop.specs.Rounds.{IsCalm, is_partner_fault, is_stall};
 ghost use Rattle.run_loop.specs.Driven.{Driven, IsGivenUp};
@@ -23,8 +23,8 @@ use crate::table::Table;
 use rent_engine::Engine;
 use std::alloc::Global;
 use uring_model::RunFault;
-use partner_calls::Partner;
-use uring_ring::{PartnerSide, UserEnds};
+use partner_traits::Partner;
+use ring_traits::{PartnerSide, UserEnds};
 
 /// How many turns in a row had no final post.
 fn quiet_after(fin: bool, quiet: u32) -> u32
@@ -45,7 +45,7 @@ pub fn drive<R: UserEnds + PartnerSide, P: Partner>(
     table: &mut Table,
 ) -> Result<(), RunFault>
     requires idle { 0 < idle }
-    requires six { AllByRecursion IsSix (all_taken todo.old) }
+    requires six { AllByRecursion IsJobEntry (all_taken todo.old) }
     requires empty { (l : Lists) × (R.lists engine.old.ring ≡ Some l) × IsCalm l (R.room engine.old.ring) × (l.published ≡ []) }
     requires holds { (0 < R.entries_fit engine.old.ring) × (0 < R.completions_fit engine.old.ring) }
     requires slots { (table.old.slots.items ≡ slots_from 0 todo.old []) × (table.old.started ≡ 0) }

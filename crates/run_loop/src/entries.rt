@@ -5,8 +5,8 @@ ghost use Rattle.uring_model.specs.Jobs.{asked, is_valid_job, is_valid_at};
 ghost use Rattle.run_loop.specs.Entries.{AllValid, IsInRange, AllInRange, first_bad, unlinked_if};
 
 use crate::slot::Reply;
-use uring_entry::squeue::Entry;
-use uring_entry::{Buf, Loan};
+use uring_base::squeue::Entry;
+use uring_base::{Buf, Loan};
 use uring_model::{Job, JobKind, Link};
 
 /// What is offered for a job: its entry, with its loan, and what its outcome will tell.

@@ -2,8 +2,8 @@
 
 ghost use Rattle.run_loop.specs.Laws.{ModelLaws};
 
-use partner_calls::Partner;
-use partner_calls::laws::world_laws;
+use partner_traits::Partner;
+use partner_traits::laws::world_laws;
 use uring_model::laws::{
     moves_join, no_stranger, partner_replays, turns_are_few, turns_are_moves, whole_at_the_end,
 };

@@ -13,9 +13,9 @@ use crate::job_op::{JobOp, JobPoll};
 use rent_engine::{Engine, OpDone, OpKey, OpPoll, OpState, Poll};
 use rent_fs::{FsError, ReadAt, Sync, WriteAt};
 use std::alloc::Global;
-use uring_entry::Buf;
+use uring_base::Buf;
 use uring_model::Outcome;
-use uring_ring::UserEnds;
+use ring_traits::UserEnds;
 
 /// The result that a count or an errno tells.
 fn result_of(count: Result<usize, FsError>) -> i32

@@ -1,9 +1,9 @@
 //! One round of a run.
 
 ghost use Rattle.std.specs.Prelude.{◌≡◌, ◌+◌, ◌⊎◌, ◌<◌, ◌≤◌, ◌++◌, ◌∷◌, [], List, Some, IfOk, IfErr, IfSome, OnOk, IsTrue, Contains, true, ℕ, length, vec_len};
-ghost use Rattle.uring_entry.specs.declared.events.Taken.{Taken};
-ghost use Rattle.uring_entry.specs.Causes.{HasCause};
-ghost use Rattle.uring_ring.specs.Lists.{Lists, Becomes, small};
+ghost use Rattle.uring_base.specs.declared.events.Taken.{Taken};
+ghost use Rattle.uring_base.specs.Causes.{HasCause};
+ghost use Rattle.ring_traits.specs.Lists.{Lists, Becomes, small};
 ghost use Rattle.run_loop.specs.Rounds.{pushed_more, IsCalm, Round, engine_fault, is_partner_fault};
 ghost use Rattle.uring_model.specs.Jobs.{asked, is_valid_job};
 ghost use Rattle.run_loop.specs.Entries.{all_taken, entry_of, loan_of, offer_of};
@@ -15,8 +15,8 @@ use crate::table::Table;
 use rent_engine::{Engine, EngineFault};
 use std::alloc::Global;
 use uring_model::RunFault;
-use partner_calls::Partner;
-use uring_ring::{PartnerSide, UserEnds};
+use partner_traits::Partner;
+use ring_traits::{PartnerSide, UserEnds};
 
 /// Starts the job in front, as an operation of the engine.
 fn start<R: UserEnds>(

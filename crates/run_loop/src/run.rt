@@ -1,11 +1,11 @@
 //! Jobs, run from one end to the other.
 
 ghost use Rattle.std.specs.Prelude.{◌≡◌, ◌<◌, ◌↔◌, ◌∷◌, [], List, IfOk, IfErr, IfSome, IsSome, IsTrue, OnOk, Option, Some, None, true, false, is_none, map, drop, length};
-ghost use Rattle.uring_entry.specs.Causes.{HasCause};
-ghost use Rattle.uring_entry.specs.Sizes.{rounded_up, is_valid_size};
+ghost use Rattle.uring_base.specs.Causes.{HasCause};
+ghost use Rattle.uring_base.specs.Sizes.{rounded_up, is_valid_size};
 ghost use Rattle.uring_ring.specs.IoUring.{IsOpened};
 ghost use Rattle.uring_model.specs.Moves.{event_of};
-ghost use Rattle.uring_ring.specs.Lists.{Lists};
+ghost use Rattle.ring_traits.specs.Lists.{Lists};
 ghost use Rattle.run_loop.specs.Entries.{AllValid, AllInRange};
 ghost use Rattle.run_loop.specs.Rounds.{IsCalm, is_partner_fault, is_refusal};
 ghost use Rattle.run_loop.specs.Slots.{count_open};
@@ -20,10 +20,11 @@ use crate::slot::Slot;
 use crate::table::Table;
 use rent_engine::Engine;
 use std::alloc::{AllocError, Global};
-use uring_entry::Event;
+use uring_base::Event;
 use uring_model::{Job, Report, RunFault};
-use partner_calls::Partner;
-use uring_ring::{Builder, IoUring, Parameters, PartnerSide, SetupError, UserEnds};
+use partner_traits::Partner;
+use ring_traits::{PartnerSide, UserEnds};
+use uring_ring::{Builder, IoUring, Parameters, SetupError};
 
 /// The events that a partner's log has from `start` on.
 fn journal_since<P: Partner>(

@@ -1,10 +1,10 @@
 //! How a job's operation is started.
 
 ghost use Rattle.std.specs.Prelude.{◌≡◌, ◌+◌, ◌<◌, ◌≤◌, ◌^◌, ◌∷◌, [], ℕ, Some, None, is_some, true, false, IfOk, IfErr, OnOk, length};
-ghost use Rattle.uring_entry.specs.FlagBits.{bits_in};
+ghost use Rattle.uring_base.specs.FlagBits.{bits_in};
 ghost use Rattle.uring_model.specs.declared.jobs.JobKind.{JobKind};
 ghost use Rattle.uring_model.specs.Jobs.{asked, is_valid_job, is_valid_at};
-ghost use Rattle.uring_ring.specs.Lists.{Becomes, small};
+ghost use Rattle.ring_traits.specs.Lists.{Becomes, small};
 ghost use Rattle.rent_engine.specs.Ops.{knows, started};
 ghost use Rattle.run_loop.specs.Entries.{words_of, loan_of, entry_of, offer_of};
 ghost use Rattle.run_loop.specs.Rounds.{pushed_more};
@@ -17,12 +17,12 @@ use bitflags::Flags as _;
 use rent_engine::{Engine, OpState, Poll, StartFault};
 use rent_fs::File;
 use std::alloc::Global;
-use uring_entry::Buf;
-use uring_entry::squeue::{Entry, Flags};
-use uring_entry::types::Fixed;
+use uring_base::Buf;
+use uring_base::squeue::{Entry, Flags};
+use uring_base::types::Fixed;
 use uring_model::{Job, JobKind, Link, RunFault};
 use uring_ops_file::{AsyncCancel, Ftruncate, Nop};
-use uring_ring::UserEnds;
+use ring_traits::UserEnds;
 
 /// The flags of a job's marks.
 fn marks(drain: bool, link: Link) -> Flags

@@ -11,7 +11,7 @@ use rent_engine::Engine;
 use std::alloc::{AllocError, Global};
 use std::collections::VecDeque;
 use uring_model::{Job, Outcome};
-use uring_ring::UserEnds;
+use ring_traits::UserEnds;
 
 /// A slot for each job. The first `started` jobs are started, `unfinished` have no outcome, and
 /// those that are started and have none are in flight.

@@ -3,7 +3,7 @@
 
 ghost use Rattle.std.specs.Prelude.{◌≡◌, ◌≢◌, ◌⊎◌, None};
 ghost use Rattle.uring_text.specs.declared.status.Status.TheVariants.{NoMemory, PartnerFault, Usage};
-ghost use Rattle.ring_command.specs.Words.{options_of};
+ghost use Rattle.uring_cli.specs.Words.{options_of};
 
 #[cfg(test)]
 mod tests;
@@ -12,7 +12,7 @@ use ring_command::{Word, ring_main};
 use std::env;
 use std::io::{self, BufReader, Write};
 use std::process::ExitCode;
-use uring_entry::Buf;
+use uring_base::Buf;
 use uring_partner::MemoryPartner;
 use uring_streams::{StdSink, StdSource};
 use uring_text::{Status, status_text};

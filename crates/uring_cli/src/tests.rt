@@ -4,7 +4,7 @@ use ring_command::{Word, ring_main};
 use std::alloc::{AllocError, Global};
 use std::process::Abort;
 use std::test::Fail;
-use uring_entry::{Buf, Nums};
+use uring_base::{Buf, Nums};
 use uring_model::{Files, Outcome, have_counts, replay};
 use uring_partner::{HostilePartner, LoanPlan, MemoryPartner, Partner, Scripted, Seedable};
 use uring_run::run_jobs;

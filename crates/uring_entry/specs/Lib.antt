@@ -1,10 +1,6 @@
-pub mod Causes
-pub mod Words
-pub mod Targets
-pub mod FlagBits
-pub mod Completions
-pub mod Loans
-pub mod Lending
-pub mod Sizes
-pub mod Bytes
-pub mod Layouts
+pub use Rattle.uring_base.specs.Words as Words
+pub use Rattle.uring_base.specs.Targets as Targets
+pub use Rattle.uring_base.specs.FlagBits as FlagBits
+pub use Rattle.uring_base.specs.Completions as Completions
+pub use Rattle.uring_base.specs.Loans as Loans
+pub use Rattle.uring_base.specs.Layouts as Layouts

@@ -3,8 +3,8 @@ use Rattle.std.proofs.Common.{◌≡◌, ℕ, List, [], ◌∷◌, ◌++◌, len
 use Rattle.std.specs.Int.{to_le_bytes, cast_signed, cast_unsigned}
 use Rattle.std.proofs.lemmas.Nat.{from_le_bytes-to_le_bytes_4, from_le_bytes-to_le_bytes_8}
 use Rattle.std.proofs.lemmas.Int.{to_z-of_z}
-use Rattle.uring_entry.specs.Bytes.{long_at}
-use Rattle.uring_entry.proofs.Codec.{AreBytes, drop-window, join, long_back}
+use Rattle.uring_base.specs.Bytes.{long_at}
+use Rattle.uring_base.proofs.Codec.{AreBytes, drop-window, join, long_back}
 use Rattle.uring_large.specs.declared.cqueue.Entry32.{Entry32}
 use Rattle.uring_large.specs.Layouts.{large_completion_at, large_completion_bytes, FitsLarge}
 

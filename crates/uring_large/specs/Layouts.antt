@@ -1,8 +1,8 @@
 -- The layouts of the large entries: the bytes of a small one, and what lies behind.
 use Rattle.std.specs.Prelude.{◌≡◌, ℕ, ◌<◌, ◌^◌, FitsSigned, length, List, [], ◌∷◌, ◌++◌, slice_index, take, drop}
 use Rattle.std.specs.Int.{w32, w64, to_le_bytes}
-use Rattle.uring_entry.specs.Bytes.{long_at}
-use Rattle.uring_entry.specs.Layouts.{entry_at, entry_bytes, completion_at, completion_bytes}
+use Rattle.uring_base.specs.Bytes.{long_at}
+use Rattle.uring_base.specs.Layouts.{entry_at, entry_bytes, completion_at, completion_bytes}
 use Rattle.uring_large.specs.declared.squeue.Entry128.{Entry128}
 use Rattle.uring_large.specs.declared.cqueue.Entry32.{Entry32}
 

@@ -1,8 +1,8 @@
 -- Entries and completions with another number, all else as it was.
 use Rattle.std.specs.Prelude.{ℕ}
-use Rattle.uring_entry.specs.declared.squeue.Entry.{Entry}
+use Rattle.uring_base.specs.declared.squeue.Entry.{Entry}
 use Rattle.uring_large.specs.declared.squeue.Entry128.{Entry128}
-use Rattle.uring_entry.specs.declared.cqueue.Entry.{Entry as Small}
+use Rattle.uring_base.specs.declared.cqueue.Entry.{Entry as Small}
 use Rattle.uring_large.specs.declared.cqueue.Entry32.{Entry32}
 
 abbrev pub entry_numbered : Entry → ℕ → Entry

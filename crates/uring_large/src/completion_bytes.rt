@@ -4,7 +4,7 @@ ghost use Rattle.std.specs.Prelude.{◌≡◌};
 ghost use Rattle.uring_large.specs.Layouts.{large_completion_at, large_completion_bytes, FitsLarge};
 
 use crate::cqueue::{Entry, Entry32};
-use uring_entry::words::long_from;
+use uring_base::words::long_from;
 
 impl Entry32 {
     /// The 32 bytes of the entry: those of a small one, and then the two further numbers.

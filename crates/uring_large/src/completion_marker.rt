@@ -2,7 +2,7 @@
 
 ghost use Rattle.std.specs.Prelude.{◌≡◌, ◌∷◌, [], ℕ, ℤ, List, refl};
 ghost use Rattle.uring_large.specs.Numbers.{completion_numbered, large_completion_numbered};
-ghost use Rattle.uring_entry.specs.declared.cqueue.Entry.{Entry};
+ghost use Rattle.uring_base.specs.declared.cqueue.Entry.{Entry};
 
 use crate::cqueue::{Entry, Entry32};
 

@@ -3,7 +3,7 @@
 ghost use Rattle.std.specs.Prelude.{◌≡◌, ℕ, List, refl, replicate};
 ghost use Rattle.std.proofs.Common.{ap};
 ghost use Rattle.uring_large.specs.Numbers.{entry_numbered, large_entry_numbered};
-ghost use Rattle.uring_entry.specs.declared.squeue.Entry.{Entry};
+ghost use Rattle.uring_base.specs.declared.squeue.Entry.{Entry};
 
 use crate::squeue::{Entry, Entry128};
 

@@ -1,7 +1,7 @@
 //! Large submission entries.
 
 use crate::squeue::{Entry, Entry128};
-use uring_entry::squeue::Flags;
+use uring_base::squeue::Flags;
 
 /// A large entry: its setters, and its bytes, of which the last 64 lie behind those of a small one.
 #[test]

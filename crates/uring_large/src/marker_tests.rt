@@ -2,7 +2,7 @@
 
 use crate::squeue::{Entry, Entry128};
 use crate::{cqueue, squeue};
-use uring_entry::types::{Fd, UseTarget};
+use uring_base::types::{Fd, UseTarget};
 
 /// An entry of either size under another number: that number, the small entry, and the last of the
 /// bytes behind it.

@@ -1,12 +1,12 @@
 //! Submission entries of 128 bytes, and what they have in common with those of 64.
 
 ghost use Rattle.std.specs.Prelude.{◌≡◌, bit_or, replicate};
-ghost use Rattle.uring_entry.specs.FlagBits.{bits_in};
+ghost use Rattle.uring_base.specs.FlagBits.{bits_in};
 ghost use Rattle.uring_large.specs.Numbers.{large_entry_numbered};
 
 pub use crate::entry_marker::EntryMarker;
-pub use uring_entry::squeue::Entry;
-use uring_entry::squeue::Flags;
+pub use uring_base::squeue::Entry;
+use uring_base::squeue::Flags;
 
 /// A submission entry of 128 bytes: the words of a small one, and the 64 bytes behind them, which
 /// only a command of 80 bytes uses.

@@ -1,12 +1,12 @@
 -- Worked entries: what they ask, and what a turn over them posts.
 use Rattle.std.specs.Prelude.{◌≡◌, ℕ, true, false, List, [], ◌∷◌, replicate, ℤ, pos, negsuc, Some, None, refl}
 use Rattle.std.specs.FinMap as map
-use Rattle.uring_entry.specs.declared.squeue.Entry.{Entry}
-use Rattle.uring_entry.specs.declared.events.Taken.{Taken}
-use Rattle.uring_entry.specs.declared.events.Completion.{Completion}
-use Rattle.uring_entry.specs.declared.types.Target.TheVariants.{Fixed}
-use Rattle.uring_entry.specs.Words.{blank, no_fd}
-use Rattle.uring_entry.specs.Targets.{on}
+use Rattle.uring_base.specs.declared.squeue.Entry.{Entry}
+use Rattle.uring_base.specs.declared.events.Taken.{Taken}
+use Rattle.uring_base.specs.declared.events.Completion.{Completion}
+use Rattle.uring_base.specs.declared.types.Target.TheVariants.{Fixed}
+use Rattle.uring_base.specs.Words.{blank, no_fd}
+use Rattle.uring_base.specs.Targets.{on}
 use Rattle.uring_model.specs.declared.jobs.Link.TheVariants.{Free, Soft, Hard}
 use Rattle.uring_model.specs.Machine.{Files, Nop, Read, Write, Fsync, Ftruncate, Cancel, Refused, step}
 use Rattle.uring_model.specs.Partner.{op_of, job_of, idle}

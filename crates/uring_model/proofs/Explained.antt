@@ -1,7 +1,7 @@
 -- What a partner does from an idle state, in the words of the replay.
 use Rattle.std.specs.Prelude.{◌≡◌, ℕ, false, true, List, [], ◌∷◌, ◌++◌, length, map, replicate, Some, None, suc, refl}
 use Rattle.std.proofs.Common.{ap, subst, ◌∙◌}
-use Rattle.uring_entry.specs.declared.events.Taken.{Taken}
+use Rattle.uring_base.specs.declared.events.Taken.{Taken}
 use Rattle.uring_model.specs.Machine.{Files}
 use Rattle.uring_model.specs.Jobs.{Job}
 use Rattle.uring_model.specs.Replay.{last_unlinked}
@@ -36,14 +36,14 @@ calls_explained jobs files choices ms ahead b asks numbered h =
     moves_explained jobs files choices ms ahead b asks numbered (served_from false (idle files choices) b ms h)
 
 -- an idle partner is known by its files and choices
-pub idle_is : (a : PartnerState) → IsIdle a → a ≡ idle a.files a.choices
-idle_is a h = λ i. record { files = a.files; pending = h.pending i; tail = h.tail i; choices = a.choices }
+pub idle_is : (a : PartnerState) → IsIdle a → a ≡ idle a.world a.choices
+idle_is a h = λ i. record { world = a.world; pending = h.pending i; tail = h.tail i; choices = a.choices }
 
 -- whole calls to an idle partner are moves from its files and choices
-pub idle_moves : (a b : PartnerState) (ms : List Move) → IsIdle a → IsServed (Some a) ms (Some b) → Steps false (idle a.files a.choices) ms b
-idle_moves a b ms h k = served_from false (idle a.files a.choices) b ms (subst (λ x. Steps true x ms b) (idle_is a h) k)
+pub idle_moves : (a b : PartnerState) (ms : List Move) → IsIdle a → IsServed (Some a) ms (Some b) → Steps false (idle a.world a.choices) ms b
+idle_moves a b ms h k = served_from false (idle a.world a.choices) b ms (subst (λ x. Steps true x ms b) (idle_is a h) k)
 
 pub idle_explained : (jobs : List Job) (ms : List Move) (ahead : List Taken) (a b : PartnerState)
-    → IsIdle a → map job_of (took ms ++ ahead) ≡ last_unlinked jobs → Numbered 0 (took ms ++ ahead) → IsServed (Some a) ms (Some b) → Explained jobs a.files a.choices ms b
+    → IsIdle a → map job_of (took ms ++ ahead) ≡ last_unlinked jobs → Numbered 0 (took ms ++ ahead) → IsServed (Some a) ms (Some b) → Explained jobs a.world a.choices ms b
 idle_explained jobs ms ahead a b h asks numbered k =
-    moves_explained jobs a.files a.choices ms ahead b asks numbered (idle_moves a b ms h k)
+    moves_explained jobs a.world a.choices ms ahead b asks numbered (idle_moves a b ms h k)

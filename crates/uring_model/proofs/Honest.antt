@@ -5,14 +5,14 @@ use Rattle.std.proofs.lemmas.List.Elements.{All-from_recursion, recursion_from_A
 use Rattle.std.proofs.lemmas.List.{map-append}
 use Rattle.std.proofs.lemmas.Bool.Decides.{nat_tests}
 use Rattle.std.proofs.Common.{ap, sym, subst, ◌∙◌, arith}
-use Rattle.uring_entry.specs.declared.events.LogEvent.{LogEvent}
-use Rattle.uring_entry.specs.declared.events.Taken.{Taken}
-use Rattle.uring_entry.specs.declared.events.Completion.{Completion}
-use Rattle.uring_entry.specs.declared.buffer.Loan.{Loan}
+use Rattle.uring_base.specs.declared.events.LogEvent.{LogEvent}
+use Rattle.uring_base.specs.declared.events.Taken.{Taken}
+use Rattle.uring_base.specs.declared.events.Completion.{Completion}
+use Rattle.uring_base.specs.declared.buffer.Loan.{Loan}
 use Rattle.uring_model.specs.declared.pending.Pending.{Pending}
-use Rattle.uring_entry.specs.Loans.{part_of, with_part}
-use Rattle.uring_entry.specs.Completions.{is_final}
-use Rattle.uring_model.specs.Machine.{Files, Answer}
+use Rattle.uring_base.specs.Loans.{part_of, with_part}
+use Rattle.uring_base.specs.Completions.{is_final}
+use Rattle.uring_model.specs.Machine.{Files, FileAnswer}
 use Rattle.uring_model.specs.Jobs.{Job, linked}
 use Rattle.uring_model.specs.Replay.{Result, last_unlinked}
 use Rattle.uring_model.specs.Chosen.{choice, stops}
@@ -24,7 +24,7 @@ use Rattle.uring_model.specs.Honest.{TakesWithinTurns, HasOwnLoan}
 use Rattle.uring_model.proofs.Lines.{numbered_split}
 use Rattle.uring_model.proofs.Explained.{moves_explained}
 use Rattle.uring_model.proofs.Progress.{split_of}
-use Rattle.uring_entry.specs.declared.events.LogEvent.TheVariants as logs
+use Rattle.uring_base.specs.declared.events.LogEvent.TheVariants as logs
 
 -- lists of entries of which something holds
 
@@ -65,7 +65,7 @@ mark_entries : (o : Option ℕ) (is : List Pending) → entries_of (mark_first_i
 mark_entries None is = refl
 mark_entries (Some t) is = first_entries t is
 
-left_entries : (a : PartnerState) (c : Cursor) (y : Answer) → entries_of (after_settle a c y).pending ≡ entries_of c.front ++ entries_of c.back
+left_entries : (a : PartnerState) (c : Cursor) (y : FileAnswer) → entries_of (after_settle a c y).pending ≡ entries_of c.front ++ entries_of c.back
 left_entries a c y =
     let cut = cut_after c y in
     mark_entries y.marks (c.front ++ pass (linked (job_of c.item.taken).link) cut c.back)
@@ -122,7 +122,7 @@ right_loan : (b : Bool) (l : Option Loan) (bytes : List ℕ) → b ≡ is_some l
 right_loan b None bytes e = ap (λ x. has_wrong_loan x true None) e
 right_loan b (Some l) bytes e = ap (λ x. has_wrong_loan x true (with_part (Some l) bytes)) e
 
-post_fine : (lends : ℕ → Bool) (seen : Seen) (t : Taken) (y : Answer) → HasOwnLoan lends t → t.entry.user_data < seen.started → list_any (nat_eq t.entry.user_data) seen.ended ≡ false
+post_fine : (lends : ℕ → Bool) (seen : Seen) (t : Taken) (y : FileAnswer) → HasOwnLoan lends t → t.entry.user_data < seen.started → list_any (nat_eq t.entry.user_data) seen.ended ≡ false
     → is_strange lends seen t.entry.user_data true (with_part t.loan y.buf) ≡ false
 post_fine lends seen t y own started ended =
     let late : not (nat_lt t.entry.user_data seen.started) ≡ false = grind (arith, nat_tests) in
@@ -152,7 +152,7 @@ none_strange lends over a b (Took t ∷ ms) seen left outs h n own pend within r
     none_strange lends false (after_take a t) b ms (record seen { taken = seen.taken + 1 }) (left - 1) outs h.1 n.1 own.1 both within.1 (omega (arith, within.0)) fresh ended
 none_strange lends over a b (Posted c ∷ ms) seen left outs h n own pend within room fresh ended =
     let s = h.1 in
-    let y = answer_to a.files h.1.cursor in
+    let y = answer_to a.world h.1.cursor in
     let t = h.1.cursor.item.taken in
     let parts = each_split (Pends lends seen.taken) (entries_of h.1.cursor.front) (h.1.cursor.item.taken ∷ entries_of h.1.cursor.back)
     (subst (Each (Pends lends seen.taken)) (cursor_entries a h.1.cursor ((choice a.choices / 2) % length (cursors a)) h.1.chosen) pend) in
@@ -162,13 +162,13 @@ none_strange lends over a b (Posted c ∷ ms) seen left outs h n own pend within
     let unended : list_any (nat_eq h.1.cursor.item.taken.entry.user_data) seen.ended ≡ false = ap (λ j. list_any (nat_eq j) seen.ended) (sym number) ∙ none_ended outs c.user_data seen.ended fresh.0 ended in
     let fine : is_strange lends seen c.user_data (is_final c.flags) c.loan ≡ false =
     ap (λ x. is_strange lends seen x.user_data (is_final x.flags) x.loan) h.1.completion
-    ∙ post_fine lends seen h.1.cursor.item.taken (answer_to a.files h.1.cursor) here.own (omega (arith, here.number)) unended in
-    let rest : Each (Pends lends seen.taken) (entries_of (after_settle a h.1.cursor (answer_to a.files h.1.cursor)).pending) =
-    subst (Each (Pends lends seen.taken)) (sym (left_entries a h.1.cursor (answer_to a.files h.1.cursor))) (each-append (Pends lends seen.taken) (entries_of h.1.cursor.front) (entries_of h.1.cursor.back) parts.0 parts.1.1) in
+    ∙ post_fine lends seen h.1.cursor.item.taken (answer_to a.world h.1.cursor) here.own (omega (arith, here.number)) unended in
+    let rest : Each (Pends lends seen.taken) (entries_of (after_settle a h.1.cursor (answer_to a.world h.1.cursor)).pending) =
+    subst (Each (Pends lends seen.taken)) (sym (left_entries a h.1.cursor (answer_to a.world h.1.cursor))) (each-append (Pends lends seen.taken) (entries_of h.1.cursor.front) (entries_of h.1.cursor.back) parts.0 parts.1.1) in
     let r : Result = record { result = c.result; buf = part_of c.loan } in
     let set : AllSet (record_one outs c) (c.user_data ∷ seen.ended) = (set_here outs c.user_data (record { result = c.result; buf = part_of c.loan }) fresh.0, all_still_set outs c.user_data (record { result = c.result; buf = part_of c.loan }) seen.ended ended) in
     passes lends seen c.user_data c.result (is_final c.flags) c.loan (log_of ms) fine final
-    ∙ none_strange lends (stops (choice a.choices)) (after_settle a h.1.cursor (answer_to a.files h.1.cursor)) b ms (record seen { ended = c.user_data ∷ seen.ended }) left (record_one outs c) h.2 n own rest within room fresh.1 set
+    ∙ none_strange lends (stops (choice a.choices)) (after_settle a h.1.cursor (answer_to a.world h.1.cursor)) b ms (record seen { ended = c.user_data ∷ seen.ended }) left (record_one outs c) h.2 n own rest within room fresh.1 set
 
 pub no_post_is_strange : (lends : ℕ → Bool) (jobs : List Job) (files : Files) (choices : List ℕ) (ms : List Move) (ahead : List Taken) (b : PartnerState)
     → map job_of (took ms ++ ahead) ≡ last_unlinked jobs → Numbered 0 (took ms ++ ahead) → Steps false (idle files choices) ms b
@@ -203,11 +203,11 @@ answers_all asks answers f over a b (Took t ∷ ms) h pend own =
     answers_all asks answers f false (after_take a t) b ms h.1 more own.1
 answers_all asks answers f over a b (Posted c ∷ ms) h pend own =
     let k = h.1.cursor in
-    let y = answer_to a.files k in
+    let y = answer_to a.world k in
     let here = subst (Each (λ t. asks t ≡ true)) (cursor_entries a k ((choice a.choices / 2) % length (cursors a)) h.1.chosen) pend in
     let parts = each_split (λ t. asks t ≡ true) (entries_of k.front) (k.item.taken ∷ entries_of k.back) here in
     let left = subst (Each (λ t. asks t ≡ true)) (sym (left_entries a k y)) (each-append (λ t. asks t ≡ true) (entries_of k.front) (entries_of k.back) parts.0 parts.1.1) in
-    (ap answers h.1.completion ∙ f a.files k parts.1.0, answers_all asks answers f (stops (choice a.choices)) (after_settle a k y) b ms h.2 left own)
+    (ap answers h.1.completion ∙ f a.world k parts.1.0, answers_all asks answers f (stops (choice a.choices)) (after_settle a k y) b ms h.2 left own)
 
 pub posts_answer : (asks : Taken → Bool) (answers : Completion → Bool) (files : Files) (choices : List ℕ) (ms : List Move) (b : PartnerState)
     → ((now : Files) (c : Cursor) → asks c.item.taken ≡ true → answers (completion_of c.item.taken (answer_to now c)) ≡ true)

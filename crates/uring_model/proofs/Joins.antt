@@ -2,9 +2,9 @@
 use Rattle.std.specs.Prelude.{◌≡◌, Bool, true, false, List, [], ◌∷◌, ◌++◌, map, Option, Some, None, refl}
 use Rattle.std.proofs.lemmas.List.{map-append}
 use Rattle.std.proofs.Common.{ap, sym, subst, ◌∙◌, append_assoc, append-nil}
-use Rattle.uring_entry.specs.declared.events.LogEvent.{LogEvent}
-use Rattle.uring_entry.specs.declared.events.Taken.{Taken}
-use Rattle.uring_entry.specs.declared.events.Completion.{Completion}
+use Rattle.uring_base.specs.declared.events.LogEvent.{LogEvent}
+use Rattle.uring_base.specs.declared.events.Taken.{Taken}
+use Rattle.uring_base.specs.declared.events.Completion.{Completion}
 use Rattle.uring_model.specs.Chosen.{choice, stops}
 use Rattle.uring_model.specs.Moves.{Move, Turned, Took, Posted, took, posted, logged, log_of, IsLogged}
 use Rattle.uring_model.specs.Partner.{PartnerState, answer_to, after_take, after_settle, Steps, IsServed}
@@ -72,7 +72,7 @@ pub Steps-append : (over was : Bool) (a b c : PartnerState) (ms ns : List Move) 
 Steps-append over was a b c [] ns h t k = from_turn over was a c ns t (subst (λ x. Steps was x ns c) h k)
 Steps-append over was a b c (Turned p ∷ ms) ns h t k = Steps-append false was a b c ms ns h t k
 Steps-append over was a b c (Took u ∷ ms) ns h t k = (h.0, Steps-append false was (after_take a u) b c ms ns h.1 t k)
-Steps-append over was a b c (Posted u ∷ ms) ns h t k = (h.0, h.1, Steps-append (stops (choice a.choices)) was (after_settle a h.1.cursor (answer_to a.files h.1.cursor)) b c ms ns h.2 t k)
+Steps-append over was a b c (Posted u ∷ ms) ns h t k = (h.0, h.1, Steps-append (stops (choice a.choices)) was (after_settle a h.1.cursor (answer_to a.world h.1.cursor)) b c ms ns h.2 t k)
 
 pub served_begins : (a b : PartnerState) (ms : List Move) → Steps true a ms b → BeginsTurn ms
 served_begins a b [] h = tt

@@ -3,11 +3,11 @@ use Rattle.std.specs.Prelude.{◌≡◌, ℕ, ◌+◌, Bool, true, false, ◌||�
 use Rattle.std.proofs.Common.{arith, length-append, length-drop}
 use Rattle.std.proofs.lemmas.List.{length-take}
 use Rattle.std.specs.FinMap.{get}
-use Rattle.uring_entry.specs.Loans.{part_of}
-use Rattle.uring_model.specs.Machine.{Files, Op, Nop, Read, Write, Fsync, Ftruncate, Cancel, Refused, Answer, limit, read_into, read_answer, write_answer, sync_answer, truncate_answer, step}
+use Rattle.uring_base.specs.Loans.{part_of}
+use Rattle.uring_model.specs.Machine.{Files, Op, Nop, Read, Write, Fsync, Ftruncate, Cancel, Refused, FileAnswer, limit, read_into, read_answer, write_answer, sync_answer, truncate_answer, step}
 use Rattle.uring_model.specs.Partner.{job_of, Cursor, answer_to}
 
-either_length : (b : Bool) (x y : Answer) (n : ℕ) → length x.buf ≡ n → length y.buf ≡ n → length (cond b x y).buf ≡ n
+either_length : (b : Bool) (x y : FileAnswer) (n : ℕ) → length x.buf ≡ n → length y.buf ≡ n → length (cond b x y).buf ≡ n
 either_length true x y n p q = p
 either_length false x y n p q = q
 

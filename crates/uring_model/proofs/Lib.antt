@@ -19,5 +19,4 @@ pub mod WorkedRows
 pub mod EntryRows
 pub mod StrangeRows
 pub mod Seen
-pub mod WorldSeen
 pub mod WorldJoins

@@ -3,7 +3,7 @@ use Rattle.std.specs.Prelude.{◌≡◌, ℕ, ◌+◌, ◌<◌, zero, suc, Bool,
 use Rattle.std.proofs.lemmas.Option.{same_Some}
 use Rattle.std.proofs.lemmas.Bool.Decides.{nat_tests}
 use Rattle.std.proofs.Common.{ap, sym, subst, ◌∙◌, append_assoc, append-nil, arith}
-use Rattle.uring_entry.specs.declared.events.Taken.{Taken}
+use Rattle.uring_base.specs.declared.events.Taken.{Taken}
 use Rattle.uring_model.specs.declared.pending.Pending.{Pending}
 use Rattle.uring_model.specs.Jobs.{Job, linked, is_soft}
 use Rattle.uring_model.specs.Replay.{Result, Row, Open, Done, is_bad, waits, cuts, severed, drains_done, all_done, Place, may, keep_if, ready, place_of, can_mark, mark, mark_if}

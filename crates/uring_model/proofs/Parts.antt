@@ -1,8 +1,8 @@
 -- A loan's part, laid back, is read again.
 use Rattle.std.specs.Prelude.{◌≡◌, ℕ, zero, suc, List, [], ◌∷◌, ◌++◌, length, take, drop, Option, Some, None, refl}
 use Rattle.std.proofs.Common.{arith}
-use Rattle.uring_entry.specs.declared.buffer.Loan.{Loan}
-use Rattle.uring_entry.specs.Loans.{part_of, with_part}
+use Rattle.uring_base.specs.declared.buffer.Loan.{Loan}
+use Rattle.uring_base.specs.Loans.{part_of, with_part}
 
 no_bytes : (b : List ℕ) → length b ≡ 0 → [] ≡ b
 no_bytes [] h = refl

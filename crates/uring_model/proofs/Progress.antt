@@ -3,7 +3,7 @@ use Rattle.std.specs.Prelude.{◌≡◌, ℕ, ◌+◌, ◌<◌, ◌/◌, ◌%◌
 use Rattle.std.proofs.lemmas.Option.{same_Some}
 use Rattle.std.proofs.Math.Nat.{mod-le}
 use Rattle.std.proofs.Common.{ap, sym, subst, ◌∙◌, append_assoc, arith, length-append}
-use Rattle.uring_entry.specs.declared.events.Completion.{Completion}
+use Rattle.uring_base.specs.declared.events.Completion.{Completion}
 use Rattle.uring_model.specs.declared.pending.Pending.{Pending}
 use Rattle.uring_model.specs.Jobs.{Job, linked}
 use Rattle.uring_model.specs.Replay.{Row, Open, Done, waits, drains_done, all_done, may, keep_if}
@@ -83,10 +83,10 @@ pass-length false s is = refl
 pass-length true s [] = refl
 pass-length true s (i ∷ is) = refl
 
-pub one_less : (a : PartnerState) (c : Completion) (h : Settles a c) → length (after_settle a h.cursor (answer_to a.files h.cursor)).pending + 1 ≡ length a.pending
+pub one_less : (a : PartnerState) (c : Completion) (h : Settles a c) → length (after_settle a h.cursor (answer_to a.world h.cursor)).pending + 1 ≡ length a.pending
 one_less a c h =
     let x = h.cursor in
-    let y = answer_to a.files h.cursor in
+    let y = answer_to a.world h.cursor in
     let b = linked (job_of h.cursor.item.taken).link in
     let cut = cut_after h.cursor y in
     let whole : length (h.cursor.front ++ h.cursor.item ∷ h.cursor.back) ≡ length a.pending = ap length (split_of [] a.pending ((choice a.choices / 2) % length (cursors a)) h.cursor h.chosen) in
@@ -104,7 +104,7 @@ conserved over a b (Took t ∷ ms) h =
     let one : length (a.pending ++ record { taken = t; cut = cut_of a.tail; marked = false } ∷ []) ≡ length a.pending + 1 = simp length-append (omega arith) in
     omega (arith, more, one)
 conserved over a b (Posted c ∷ ms) h =
-    let more = conserved (stops (choice a.choices)) (after_settle a h.1.cursor (answer_to a.files h.1.cursor)) b ms h.2 in
+    let more = conserved (stops (choice a.choices)) (after_settle a h.1.cursor (answer_to a.world h.1.cursor)) b ms h.2 in
     omega (arith, more, one_less a c h.1)
 
 -- for the code: the front is the one that a small choice names

@@ -8,7 +8,7 @@ use Rattle.std.proofs.Math.Bool.{and-false}
 use Rattle.std.proofs.lemmas.List.Elements.{All-set, All-append}
 use Rattle.std.proofs.Math.Seq.{take-append_seam, take-length, drop-length}
 use Rattle.std.proofs.lemmas.Bool.Decides.{nat_tests}
-use Rattle.uring_entry.specs.Lending.{laid_over}
+use Rattle.uring_base.specs.Lending.{laid_over}
 use Rattle.uring_model.specs.declared.jobs.Job as jobs
 use Rattle.uring_model.specs.declared.jobs.JobKind.{JobKind}
 use Rattle.uring_model.specs.declared.jobs.JobKind.TheVariants as kinds
@@ -16,7 +16,7 @@ use Rattle.uring_model.specs.declared.jobs.Link.TheVariants.{Free}
 use Rattle.uring_model.specs.declared.rows.Row as code
 use Rattle.uring_model.specs.declared.rows.Settled.{Settled}
 use Rattle.uring_model.specs.declared.request.Asked.{Asked}
-use Rattle.uring_model.specs.Machine.{Files, Answer, step}
+use Rattle.uring_model.specs.Machine.{Files, FileAnswer, step}
 use Rattle.uring_model.specs.Jobs.{asked, all_asked, op_asked, buf_lent, is_valid_op, is_valid_job}
 use Rattle.uring_model.specs.Asked.{op_in, answer_in, FindsAs}
 use Rattle.uring_model.specs.Replay.{Done, Place, State, can_mark, can_mark_other, mark_if, settle, severed, may, place_of, post_at, settled, outcome_of, last_unlinked}
@@ -47,9 +47,9 @@ settle_steps files before row after asks can buf m s op b f =
     ∙ ap (λ b. step files (can_mark_other p) (op_asked row.job.kind) b) b
     ∙ sym (settle_open files p m s)
 
-pub answer_parts : (a : Answer) (r : ℤ) (buf part : List ℕ) (files : Files) (marks : Option ℕ) → length part ≡ length buf → r ≡ a.result → part ≡ a.buf → files ≡ a.files → marks ≡ a.marks → record { result = r; buf = laid_over buf part; files = files; marks = marks } ≡ a
+pub answer_parts : (a : FileAnswer) (r : ℤ) (buf part : List ℕ) (files : Files) (marks : Option ℕ) → length part ≡ length buf → r ≡ a.result → part ≡ a.buf → files ≡ a.world → marks ≡ a.marks → record { result = r; buf = laid_over buf part; world = files; marks = marks } ≡ a
 answer_parts a r buf part files marks h er eb ef em =
-    let e : record { result = r; buf = part; files = files; marks = marks } ≡ record { result = a.result; buf = a.buf; files = a.files; marks = a.marks } = cc in
+    let e : record { result = r; buf = part; world = files; marks = marks } ≡ record { result = a.result; buf = a.buf; world = a.world; marks = a.marks } = cc in
     rw (laid_whole buf part h) e
 
 -- the last job without its link
@@ -83,18 +83,18 @@ post_open s r k rows row h e o =
 pub post_early : (s : State) (r : ℤ) (p : Place) → may p.before p.job ≡ false → None ≡ post_at s r (Some p)
 post_early s r p h = rw h refl
 
-pub post_wrong : (s : State) (r : ℤ) (p : Place) (a : Answer) → a ≡ settle s.files p → int_eq a.result r ≡ false → None ≡ post_at s r (Some p)
+pub post_wrong : (s : State) (r : ℤ) (p : Place) (a : FileAnswer) → a ≡ settle s.files p → int_eq a.result r ≡ false → None ≡ post_at s r (Some p)
 post_wrong s r p a e h =
     let t : int_eq (settle s.files p).result r ≡ false = subst (λ a. int_eq a.result r ≡ false) e h in
     rw (t, and-false (may p.before p.job)) refl
 
 -- what stands behind a place, as a range of the slice
-pub settle_behind : (a : Answer) (files : Files) (before : List code.Row) (row : code.Row) (rows : List code.Row) (n : ℕ) → a ≡ settle files (place_between before row (take (length rows - n) (drop n rows))) → a ≡ settle files (place_between before row (drop n rows))
+pub settle_behind : (a : FileAnswer) (files : Files) (before : List code.Row) (row : code.Row) (rows : List code.Row) (n : ℕ) → a ≡ settle files (place_between before row (take (length rows - n) (drop n rows))) → a ≡ settle files (place_between before row (drop n rows))
 settle_behind a files before row rows n e =
     e ∙ ap (λ m. settle files (place_between before row (take m (drop n rows)))) (sym (length-drop n rows))
     ∙ ap (λ l. settle files (place_between before row l)) (take-length (drop n rows))
 
-pub post_right : (s : State) (r : ℤ) (p : Place) (a : Answer) → may p.before p.job ≡ true → a ≡ settle s.files p → int_eq a.result r ≡ true → Some (settled s p a) ≡ post_at s r (Some p)
+pub post_right : (s : State) (r : ℤ) (p : Place) (a : FileAnswer) → may p.before p.job ≡ true → a ≡ settle s.files p → int_eq a.result r ≡ true → Some (settled s p a) ≡ post_at s r (Some p)
 post_right s r p a m e h =
     let t : int_eq (settle s.files p).result r ≡ true = subst (λ a. int_eq a.result r ≡ true) e h in
     rw (m, t) (ap (λ a. Some (settled s p a)) e)
@@ -108,13 +108,13 @@ abbrev pub settled_row : code.Row → ℤ → List ℕ → code.Row
 settled_row now r buf = record { job = now.job; marked = now.marked; outcome = Some (record { result = r; buf = buf }) }
 
 -- the state that is left where a job settled, and marked the job that its cancel found
-pub posted : (s : State) (k : ℕ) (rows new : List code.Row) (row now : code.Row) (a : Answer) (r : ℤ)
+pub posted : (s : State) (k : ℕ) (rows new : List code.Row) (row now : code.Row) (a : FileAnswer) (r : ℤ)
     → k < length rows → row ≡ get_or rows k row → now ≡ get_or rows k now → r ≡ a.result
     → rows_in new ≡ mark_if a.marks (rows_in (set rows k (settled_row now r a.buf)))
-    → record { files = a.files; rows = rows_in new; rest = s.rest } ≡ settled s (place_between (take k rows) row (drop (k + 1) rows)) a
+    → record { files = a.world; rows = rows_in new; rest = s.rest } ≡ settled s (place_between (take k rows) row (drop (k + 1) rows)) a
 posted s k rows new row now a r h e en er en' =
     let one : suc k ≡ k + 1 = omega arith in
-    ap (λ rs. record { files = a.files; rows = rs; rest = s.rest })
+    ap (λ rs. record { files = a.world; rows = rs; rest = s.rest })
     (en' ∙ ap (mark_if a.marks)
     (rows_put k rows (settled_row now r a.buf) h
     ∙ ap (λ x. rows_in (take k rows) ++ Done (asked x.job) (record { result = r; buf = a.buf }) ∷ rows_in (drop (suc k) rows)) (got_same k rows now row h en e)

@@ -3,20 +3,20 @@ use Rattle.std.proofs.Common.{◌≡◌, ℕ, zero, suc, Bool, true, false, ◌&
 use Rattle.std.specs.Prelude.{◌/◌, ◌%◌, if◌then◌else◌}
 use Rattle.std.specs.List.{AllByRecursion}
 use Rattle.std.proofs.lemmas.Option.{same_Some}
-use Rattle.uring_entry.specs.declared.events.Taken.{Taken}
-use Rattle.uring_entry.specs.declared.events.Completion.{Completion}
-use Rattle.uring_entry.specs.declared.buffer.Loan.{Loan}
+use Rattle.uring_base.specs.declared.events.Taken.{Taken}
+use Rattle.uring_base.specs.declared.events.Completion.{Completion}
+use Rattle.uring_base.specs.declared.buffer.Loan.{Loan}
 use Rattle.uring_model.specs.declared.pending.Pending.{Pending}
-use Rattle.uring_model.specs.Machine.{AnswerIn}
+use Rattle.uring_model.specs.Machine.{Answer}
 use Rattle.uring_model.specs.Jobs.{linked}
 use Rattle.uring_model.specs.Replay.{cuts, keep_if}
 use Rattle.uring_model.specs.Chosen.{choice, stops}
 use Rattle.uring_model.specs.Moves.{Move, Turned, Took, Posted, took}
 use Rattle.uring_model.specs.Asks.{job_of}
-use Rattle.uring_model.specs.Viewed.{Agrees, Refines, Fine, WorldLaws}
+use Rattle.uring_model.specs.Refines.{Agrees, Refines, IsPlainState, WorldLaws}
 use Rattle.uring_model.specs.Partner.{file_machine}
 use Rattle.uring_model.specs.Machine.{Files}
-use Rattle.uring_model.specs.World.{IsSix}
+use Rattle.uring_model.specs.Asks.{IsJobEntry}
 use Rattle.uring_model.proofs.WorldJoins.{IsServed-append, IsServed-none}
 use Rattle.uring_model.specs.Schedule.{Cursor, Machine, State, cut_of, held, no_drain, is_nil, other_in, mark_first, mark_first_if, pass, pass_end, named, canceled_in, cut_after, after_take, take_all, after_settle, completion_of, Outturn, posting, stays, is_ready, ready_cursors, cursors, answer_to, settled_by, Settles, Steps, settle_then, settle_turn, turn}
 
@@ -48,7 +48,7 @@ all_passed P false s is h = h
 all_passed P true s [] h = h
 all_passed P true s (i ∷ is) h = (h.0, h.1)
 
-all_settled : {W : Type 0} (P : Taken → Type 0) (a : State W) (c : Cursor) (y : AnswerIn W) → AllByRecursion (λ i. P i.taken) c.front → AllByRecursion (λ i. P i.taken) c.back → AllByRecursion (λ i. P i.taken) (after_settle a c y).pending
+all_settled : {W : Type 0} (P : Taken → Type 0) (a : State W) (c : Cursor) (y : Answer W) → AllByRecursion (λ i. P i.taken) c.front → AllByRecursion (λ i. P i.taken) c.back → AllByRecursion (λ i. P i.taken) (after_settle a c y).pending
 all_settled P a c y h k =
     all_marked P y.marks (c.front ++ pass (linked (job_of c.item.taken).link) (cut_after c y) c.back)
     (all-append P c.front (pass (linked (job_of c.item.taken).link) (cut_after c y) c.back) h (all_passed P (linked (job_of c.item.taken).link) (cut_after c y) c.back k))
@@ -70,10 +70,10 @@ post_same t r s f g x y p e q = λ i. record { user_data = t.entry.user_data; re
 
 module _ {W V : Type 0} (m : Machine W) (n : Machine V) (view : W → V) (Plain : W → Type 0) (Asked : Taken → Type 0) (r : Refines m n view Plain Asked) where
   abbrev look : State W → State V
-  look a = record { files = view a.files; pending = a.pending; tail = a.tail; choices = a.choices }
+  look a = record { world = view a.world; pending = a.pending; tail = a.tail; choices = a.choices }
 
   abbrev Good : State W → Type 0
-  Good a = Fine Plain Asked a
+  Good a = IsPlainState Plain Asked a
 
   abbrev Each : List Pending → Type 0
   Each is = AllByRecursion (λ i. Asked i.taken) is
@@ -88,7 +88,7 @@ module _ {W V : Type 0} (m : Machine W) (n : Machine V) (view : W → V) (Plain 
       (ready_same w front i p q.0) (cursors_same w (front ++ i ∷ []) is p q.1)
 
   pub ready_seen : (a : State W) → Good a → cursors m a ≡ cursors n (look a)
-  ready_seen a f = cursors_same a.files [] a.pending f.world f.pending
+  ready_seen a f = cursors_same a.world [] a.pending f.world f.pending
 
   named_same : (a : State W) → Good a → named (choice a.choices) (cursors m a) ≡ named (choice a.choices) (cursors n (look a))
   named_same a f = ap (named (choice a.choices)) (ready_seen a f)
@@ -97,44 +97,44 @@ module _ {W V : Type 0} (m : Machine W) (n : Machine V) (view : W → V) (Plain 
 
   answer_either : (w : W) (c : Cursor) (b : Bool) → Plain w → Asked c.item.taken
       → Agrees view (if b then canceled_in w (job_of c.item.taken).buf else m.answer w (other_in c) c.item.taken) (if b then canceled_in (view w) (job_of c.item.taken).buf else n.answer (view w) (other_in c) c.item.taken)
-  answer_either w c true p q = record { result = refl; buf = refl; files = refl; marks = refl }
+  answer_either w c true p q = record { result = refl; buf = refl; world = refl; marks = refl }
   answer_either w c false p q = r.answers w (other_in c) c.item.taken p q
 
   answer_same : (w : W) (c : Cursor) → Plain w → Asked c.item.taken → Agrees view (answer_to m w c) (answer_to n (view w) c)
   answer_same w c p q = answer_either w c (c.item.marked || c.item.cut) p q
 
-  plain_either : (w : W) (c : Cursor) (b : Bool) → Plain w → Asked c.item.taken → Plain (if b then canceled_in w (job_of c.item.taken).buf else m.answer w (other_in c) c.item.taken).files
+  plain_either : (w : W) (c : Cursor) (b : Bool) → Plain w → Asked c.item.taken → Plain (if b then canceled_in w (job_of c.item.taken).buf else m.answer w (other_in c) c.item.taken).world
   plain_either w c true p q = p
   plain_either w c false p q = r.stays w (other_in c) c.item.taken p q
 
   -- one settling
 
-  settle_same : (a : State W) (c : Cursor) (y : AnswerIn W) (z : AnswerIn V) → Agrees view y z → look (after_settle a c y) ≡ after_settle (look a) c z
+  settle_same : (a : State W) (c : Cursor) (y : Answer W) (z : Answer V) → Agrees view y z → look (after_settle a c y) ≡ after_settle (look a) c z
   settle_same a c y z g = λ i. record {
-    files = g.files i;
+    world = g.world i;
     pending = mark_first_if (g.marks i) (c.front ++ pass (linked (job_of c.item.taken).link) (cuts c.item.cut (job_of c.item.taken) (g.result i)) c.back);
     tail = pass_end (linked (job_of c.item.taken).link) (cuts c.item.cut (job_of c.item.taken) (g.result i)) c.back a.tail;
     choices = drop 1 a.choices;
   }
 
-  post_seen : (t : Taken) (y : AnswerIn W) (z : AnswerIn V) → Asked t → Agrees view y z → completion_of m t y ≡ completion_of n t z
+  post_seen : (t : Taken) (y : Answer W) (z : Answer V) → Asked t → Agrees view y z → completion_of m t y ≡ completion_of n t z
   post_seen t y z q g = post_same t y.result z.result (m.back t) (n.back t) y.buf z.buf g.result (λ k x. r.backs t k x q) g.buf
 
   -- the entry that a choice names is one that may be asked, and what is left is plain
   named_fine : (a : State W) (c : Cursor) → Good a → named (choice a.choices) (cursors m a) ≡ Some c → Asked c.item.taken × Good (settled_by m a c)
   named_fine a c f e =
-      let whole = split_of (m.can_answer a.files) [] a.pending ((choice a.choices / 2) % length (cursors m a)) c e in
+      let whole = split_of (m.can_answer a.world) [] a.pending ((choice a.choices / 2) % length (cursors m a)) c e in
       let parts = all_split Asked c.front (c.item ∷ c.back) (subst Each (sym whole) f.pending) in
-      (parts.1.0, record { world = plain_either a.files c (c.item.marked || c.item.cut) f.world parts.1.0; pending = all_settled Asked a c (answer_to m a.files c) parts.0 parts.1.1 })
+      (parts.1.0, record { world = plain_either a.world c (c.item.marked || c.item.cut) f.world parts.1.0; pending = all_settled Asked a c (answer_to m a.world c) parts.0 parts.1.1 })
 
   settled_seen : (a : State W) (c : Cursor) → Good a → Asked c.item.taken → look (settled_by m a c) ≡ settled_by n (look a) c
-  settled_seen a c f q = settle_same a c (answer_to m a.files c) (answer_to n (view a.files) c) (answer_same a.files c f.world q)
+  settled_seen a c f q = settle_same a c (answer_to m a.world c) (answer_to n (view a.world) c) (answer_same a.world c f.world q)
 
   settles_seen : (a : State W) (post : Completion) → Good a → (s : Settles m a post) → Settles n (look a) post
   settles_seen a post f s = record {
     cursor = s.cursor;
     chosen = sym (named_same a f) ∙ s.chosen;
-    completion = s.completion ∙ post_seen s.cursor.item.taken (answer_to m a.files s.cursor) (answer_to n (view a.files) s.cursor) (named_fine a s.cursor f s.chosen).0 (answer_same a.files s.cursor f.world (named_fine a s.cursor f s.chosen).0);
+    completion = s.completion ∙ post_seen s.cursor.item.taken (answer_to m a.world s.cursor) (answer_to n (view a.world) s.cursor) (named_fine a s.cursor f s.chosen).0 (answer_same a.world s.cursor f.world (named_fine a s.cursor f s.chosen).0);
   }
 
   take_fine : (a : State W) (t : Taken) → Good a → Asked t → Good (after_take a t)
@@ -177,9 +177,9 @@ module _ {W V : Type 0} (m : Machine W) (n : Machine V) (view : W → V) (Plain 
   then_same a fp gp None f e q = record { posts = refl; state = refl; fine = f }
   then_same a fp gp (Some c) f e q =
       let fine = named_fine a c f e in
-      let y = answer_to m a.files c in
-      let z = answer_to n (view a.files) c in
-      let g = answer_same a.files c f.world fine.0 in
+      let y = answer_to m a.world c in
+      let z = answer_to n (view a.world) c in
+      let g = answer_same a.world c f.world fine.0 in
       let here = settled_seen a c f fine.0 in
       let b = settled_by m a c in
       let d = settled_by n (look a) c in
@@ -209,10 +209,10 @@ module _ {W V : Type 0} (m : Machine W) (n : Machine V) (view : W → V) (Plain 
         subst (λ c. Same (settle_turn m room b) (settle_turn n room c)) (take_seen ts a) (turn_same room b (takes_fine ts a f q)) in
       (s.posts, s.state, s.fine)
 
-pub world_laws : {W : Type 0} (m : Machine W) (view : W → Files) (Plain : W → Type 0) → Refines m file_machine view Plain IsSix → WorldLaws m view Plain
+pub world_laws : {W : Type 0} (m : Machine W) (view : W → Files) (Plain : W → Type 0) → Refines m file_machine view Plain IsJobEntry → WorldLaws m view Plain
 world_laws m view Plain r = record {
   join = IsServed-append m;
   stay = IsServed-none m;
-  steps_seen = λ over a b ms f q h. steps_seen m file_machine view Plain IsSix r over a b ms f q h;
-  turns_seen = λ room ts a f q. let s = turn_seen m file_machine view Plain IsSix r room ts a f q in (s.0, s.1, s.2);
+  steps_seen = λ over a b ms f q h. steps_seen m file_machine view Plain IsJobEntry r over a b ms f q h;
+  turns_seen = λ room ts a f q. let s = turn_seen m file_machine view Plain IsJobEntry r room ts a f q in (s.0, s.1, s.2);
 }

@@ -7,13 +7,13 @@ use Rattle.std.proofs.lemmas.Option.{slice_get-map}
 use Rattle.std.proofs.lemmas.List.{length-map}
 use Rattle.std.proofs.lemmas.Bool.Decides.{nat_tests}
 use Rattle.std.proofs.Math.Seq.{set-append_seam}
-use Rattle.uring_entry.specs.declared.events.Event.TheVariants as events
+use Rattle.uring_base.specs.declared.events.Event.TheVariants as events
 use Rattle.uring_model.proofs.Parts.{part_read}
 use Rattle.std.proofs.Common.{ap, sym, subst, ◌∙◌, append_assoc, arith}
-use Rattle.uring_entry.specs.declared.events.Taken.{Taken}
-use Rattle.uring_entry.specs.declared.events.Completion.{Completion}
-use Rattle.uring_entry.specs.declared.events.Event.{Event}
-use Rattle.uring_entry.specs.Loans.{part_of, with_part}
+use Rattle.uring_base.specs.declared.events.Taken.{Taken}
+use Rattle.uring_base.specs.declared.events.Completion.{Completion}
+use Rattle.uring_base.specs.declared.events.Event.{Event}
+use Rattle.uring_base.specs.Loans.{part_of, with_part}
 use Rattle.uring_model.specs.Machine.{Files, step, canceled}
 use Rattle.uring_model.specs.Jobs.{Job, linked, is_soft}
 use Rattle.uring_model.specs.Replay.{Result, Row, Open, Done, State, is_bad, waits, cuts, severed, Place, may, ready, place_of, mark, mark_if, settle, outcome_of, settled, post_at, replay_event, replay_next, replay_from, last_unlinked, first_state, outcomes, table}
@@ -57,7 +57,7 @@ pub record Related (all : List Taken) (a : PartnerState) (s : State) (ahead : Li
   pub lines : List Line
   pub rows : s.rows ≡ rows_of lines
   pub rest : s.rest ≡ map job_of ahead
-  pub files : s.files ≡ a.files
+  pub files : s.files ≡ a.world
   pub pending : a.pending ≡ view None lines
   pub tail : a.tail ≡ tail_after None lines
   pub closed : Closed false lines
@@ -140,9 +140,9 @@ same_answer f g before after t m e h w n k =
 
 -- where the settled entry stands
 pub settled_in : (all : List Taken) (a : PartnerState) (s : State) (ahead : List Taken) (before after : List Line) (t : Taken) (m : Bool) → (r : Related all a s ahead) → r.lines ≡ before ++ Held t m ∷ after → may (rows_of before) (job_of t) ≡ true
-    → (n : State) × (replay_event s (event_of (logged (Posted (completion_of t (answer_to a.files (cursor_in before t m after)))))) ≡ Some n)
-    × Related all (after_settle a (cursor_in before t m after) (answer_to a.files (cursor_in before t m after))) n ahead
-    × (table n ≡ record_one (table s) (completion_of t (answer_to a.files (cursor_in before t m after))))
+    → (n : State) × (replay_event s (event_of (logged (Posted (completion_of t (answer_to a.world (cursor_in before t m after)))))) ≡ Some n)
+    × Related all (after_settle a (cursor_in before t m after) (answer_to a.world (cursor_in before t m after))) n ahead
+    × (table n ≡ record_one (table s) (completion_of t (answer_to a.world (cursor_in before t m after))))
     × (length (rows_of before) ≡ t.entry.user_data)
     × (slice_get (table s) t.entry.user_data ≡ Some None)
 settled_in all a s ahead before after t m r whole ok =
@@ -158,9 +158,9 @@ settled_in all a s ahead before after t m r whole ok =
     let count : length (rows_of before) ≡ length (takens before) = rows_count before in
     let number : t.entry.user_data ≡ length (rows_of before) = omega (arith, parts.1.0, count) in
     let later : Numbered (length (rows_of before) + 1) (takens after) = subst (λ k. Numbered k (takens after)) (omega (arith, count)) parts.1.1 in
-    let same : settle s.files p ≡ answer_to a.files c = same_answer a.files s.files before after t m r.files closed.0 nowait parts.0 later in
+    let same : settle s.files p ≡ answer_to a.world c = same_answer a.world s.files before after t m r.files closed.0 nowait parts.0 later in
     let x = settle s.files p in
-    let y = answer_to a.files c in
+    let y = answer_to a.world c in
     let gone : Line = Gone t (outcome_of x) in
     let ls : List Line = before ++ gone ∷ after in
     let ls_names : takens ls ≡ takens before ++ t ∷ takens after = takens-append before (gone ∷ after) in
@@ -172,7 +172,7 @@ settled_in all a s ahead before after t m r whole ok =
     let end : a.tail ≡ tail_after (held_tail t) after = r.tail ∙ ap (tail_after None) whole ∙ tail_after-append None before (Held t m ∷ after) in
     let seen : view None ls ≡ view None before ++ pass (linked (job_of t).link) (cuts (cut_of (tail_after None before)) (job_of t) x.result) (view (held_tail t) after) = view-append None before (gone ∷ after) ∙ ap (λ l. view None before ++ l) (passed (linked (job_of t).link) cut after closed.1) in
     let more = replicate (length s.rest) None in
-    let bytes : part_of (with_part t.loan y.buf) ≡ x.buf = part_read t.loan y.buf (answer-length a.files c) ∙ ap (λ z. z.buf) (sym same) in
+    let bytes : part_of (with_part t.loan y.buf) ≡ x.buf = part_read t.loan y.buf (answer-length a.world c) ∙ ap (λ z. z.buf) (sym same) in
     let told : ◌≡◌ {A = Result} (outcome_of x) (record { result = y.result; buf = part_of (with_part t.loan y.buf) }) = λ i. record { result = (same i).result; buf = sym bytes i } in
     let at : t.entry.user_data ≡ length (outcomes (rows_of before)) = number ∙ sym (outcomes-length (rows_of before)) in (
       settled s p x,
@@ -181,7 +181,7 @@ settled_in all a s ahead before after t m r whole ok =
         lines = marked.lines;
         rows = ap (mark_if x.marks) (sym (rows-append before (gone ∷ after))) ∙ sym marked.rows;
         rest = r.rest;
-        files = ap (λ z. z.files) same;
+        files = ap (λ z. z.world) same;
         pending =
             (λ i. mark_first_if (sym same i).marks (view None before ++ pass (linked (job_of t).link) (cuts (cut_of (tail_after None before)) (job_of t) (sym same i).result) (view (held_tail t) after)))
             ∙ ap (mark_first_if x.marks) (sym seen) ∙ sym marked.view;
@@ -203,7 +203,7 @@ settled_in all a s ahead before after t m r whole ok =
 
 -- one settling, whichever entry the choice names
 pub settled_one : (all : List Taken) (a : PartnerState) (s : State) (ahead : List Taken) (c : Completion) → Related all a s ahead → (h : Settles a c)
-    → (n : State) × (replay_event s (event_of (logged (Posted c))) ≡ Some n) × Related all (after_settle a h.cursor (answer_to a.files h.cursor)) n ahead × (table n ≡ record_one (table s) c)
+    → (n : State) × (replay_event s (event_of (logged (Posted c))) ≡ Some n) × Related all (after_settle a h.cursor (answer_to a.world h.cursor)) n ahead × (table n ≡ record_one (table s) c)
     × Names (choice a.choices) (numbers (ready [] s.rows)) c.user_data
     × (slice_get (table s) c.user_data ≡ Some None)
 settled_one all a s ahead c r h =
@@ -215,14 +215,14 @@ settled_one all a s ahead c r h =
     let pick = both_pick r.lines ps cs ((choice a.choices / 2) % length cs) h.cursor both chosen in
     let f = pick.2 in
     let one = settled_in all a s ahead f.before f.after f.taken f.marked r f.whole f.may in
-    let done : c ≡ completion_of f.taken (answer_to a.files (cursor_in f.before f.taken f.marked f.after)) = h.completion ∙ (λ i. completion_of (f.cursor i).item.taken (answer_to a.files (f.cursor i))) in
+    let done : c ≡ completion_of f.taken (answer_to a.world (cursor_in f.before f.taken f.marked f.after)) = h.completion ∙ (λ i. completion_of (f.cursor i).item.taken (answer_to a.world (f.cursor i))) in
     let counted : length (numbers ps) ≡ length cs = length-map ps (λ p. length p.before) ∙ both_count r.lines ps cs both in
     let names : slice_get (numbers ps) ((choice a.choices / 2) % length (numbers ps)) ≡ Some (length pick.0.before) =
     ap (λ n. slice_get (numbers ps) ((choice a.choices / 2) % n)) counted ∙ slice_get-map (λ p. length p.before) ps ((choice a.choices / 2) % length cs) ∙ ap (option_map (λ p. length p.before)) pick.1 in
     let number : length pick.0.before ≡ c.user_data = ap (λ p. length p.before) f.place ∙ one.4 ∙ sym (ap (λ x. x.user_data) done) in (
       one.0,
       ap (λ x. replay_event s (event_of (logged (Posted x)))) done ∙ one.1,
-      subst (λ x. Related all (after_settle a x (answer_to a.files x)) one.0 ahead) (sym f.cursor) one.2,
+      subst (λ x. Related all (after_settle a x (answer_to a.world x)) one.0 ahead) (sym f.cursor) one.2,
       one.3 ∙ ap (record_one (table s)) (sym done),
       subst (λ rows. Names (choice a.choices) (numbers (ready [] rows)) c.user_data) (sym r.rows) (names ∙ ap Some number),
       ap (slice_get (table s)) (ap (λ x. x.user_data) done) ∙ one.5,
@@ -260,7 +260,7 @@ tells all over a b s (Took u ∷ ms) ahead r h =
     }
 tells all over a b s (Posted c ∷ ms) ahead r h =
     let one = settled_one all a s (took ms ++ ahead) c r h.1 in
-    let t = tells all (stops (choice a.choices)) (after_settle a h.1.cursor (answer_to a.files h.1.cursor)) b one.0 ms ahead one.2 h.2 in
+    let t = tells all (stops (choice a.choices)) (after_settle a h.1.cursor (answer_to a.world h.1.cursor)) b one.0 ms ahead one.2 h.2 in
     record {
       state = t.state;
       replays = goes_on (journal_of (log_of ms)) (event_of (logged (Posted c))) s one.0 one.1 ∙ t.replays;
@@ -276,4 +276,4 @@ pub explained : (jobs : List Job) (files : Files) (choices : List ℕ) (ms : Lis
     → Told (took ms ++ ahead) false (idle files choices) b (first_state jobs files) ms ahead
 explained jobs files choices ms ahead b asks numbered h =
     tells (took ms ++ ahead) false (idle files choices) b (first_state jobs files) ms ahead
-    (record { lines = []; rows = refl; rest = sym asks; files = refl; pending = refl; tail = refl; closed = tt; entries = refl; numbered = numbered }) h
+    (record { lines = []; rows = refl; rest = sym asks; world = refl; pending = refl; tail = refl; closed = tt; entries = refl; numbered = numbered }) h

@@ -1,9 +1,9 @@
 -- Worked logs with and without a strange post.
 use Rattle.std.specs.Prelude.{◌≡◌, ℕ, Bool, true, false, nat_eq, List, [], ◌∷◌, pos, Option, Some, None, refl}
-use Rattle.uring_entry.specs.declared.buffer.Loan.{Loan}
-use Rattle.uring_entry.specs.declared.events.LogEvent.{LogEvent}
-use Rattle.uring_entry.specs.declared.events.LogEvent.TheVariants.{Turn, Take, Post}
-use Rattle.uring_entry.specs.Words.{blank}
+use Rattle.uring_base.specs.declared.buffer.Loan.{Loan}
+use Rattle.uring_base.specs.declared.events.LogEvent.{LogEvent}
+use Rattle.uring_base.specs.declared.events.LogEvent.TheVariants.{Turn, Take, Post}
+use Rattle.uring_base.specs.Words.{blank}
 use Rattle.uring_model.specs.Strange.{first_strange, nothing_seen}
 
 -- job 1 alone lends a buffer

@@ -1,8 +1,8 @@
 -- A whole turn, as a function.
 use Rattle.std.specs.Prelude.{◌≡◌, ℕ, ◌+◌, ◌<◌, ◌≤◌, zero, suc, Bool, true, false, cond, List, [], ◌∷◌, ◌++◌, length, map, Option, Some, None, refl}
 use Rattle.std.proofs.Common.{ap, sym, subst, arith}
-use Rattle.uring_entry.specs.declared.events.Taken.{Taken}
-use Rattle.uring_entry.specs.declared.events.Completion.{Completion}
+use Rattle.uring_base.specs.declared.events.Taken.{Taken}
+use Rattle.uring_base.specs.declared.events.Completion.{Completion}
 use Rattle.uring_model.specs.declared.pending.Pending.{Pending}
 use Rattle.uring_model.specs.Chosen.{choice, stops}
 use Rattle.uring_model.specs.Moves.{Move, Turned, Took, Posted, took, posted}
@@ -110,7 +110,7 @@ one_at_most false a c t n h = omega arith
 
 settles_within : (a : PartnerState) (go : PartnerState → Outturn) (o : Option Cursor) (n : ℕ) → ((b : PartnerState) → length (go b).posts ≤ n) → length (settle_then a go o).posts ≤ suc n
 settles_within a go None n h = omega arith
-settles_within a go (Some c) n h = one_at_most (stops (choice a.choices)) (settled_by a c) (completion_of c.item.taken (answer_to a.files c)) (go (settled_by a c)) n (h (settled_by a c))
+settles_within a go (Some c) n h = one_at_most (stops (choice a.choices)) (settled_by a c) (completion_of c.item.taken (answer_to a.world c)) (go (settled_by a c)) n (h (settled_by a c))
 
 pub turn_fits : (room : ℕ) (a : PartnerState) → length (settle_turn room a).posts ≤ room
 turn_fits zero a = omega arith

@@ -22,7 +22,7 @@ module _ {W : Type 0} (m : Machine W) where
   Steps-append over was a b c [] ns h t k = from_turn over was a c ns t (subst (λ x. Steps m was x ns c) h k)
   Steps-append over was a b c (Turned p ∷ ms) ns h t k = Steps-append false was a b c ms ns h t k
   Steps-append over was a b c (Took u ∷ ms) ns h t k = (h.0, Steps-append false was (after_take a u) b c ms ns h.1 t k)
-  Steps-append over was a b c (Posted u ∷ ms) ns h t k = (h.0, h.1, Steps-append (stops (choice a.choices)) was (after_settle a h.1.cursor (answer_to m a.files h.1.cursor)) b c ms ns h.2 t k)
+  Steps-append over was a b c (Posted u ∷ ms) ns h t k = (h.0, h.1, Steps-append (stops (choice a.choices)) was (after_settle a h.1.cursor (answer_to m a.world h.1.cursor)) b c ms ns h.2 t k)
 
   pub served_begins : (a b : (State W)) (ms : List Move) → Steps m true a ms b → BeginsTurn ms
   served_begins a b [] h = tt

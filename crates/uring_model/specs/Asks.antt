@@ -1,11 +1,11 @@
 -- What an entry asks, and how it is linked.
-use Rattle.std.specs.Prelude.{ℕ, ◌&&◌, cond, nat_lt, nat_eq, List, length, Option, Some, None}
+use Rattle.std.specs.Prelude.{◌≡◌, ℕ, Bool, true, false, ◌&&◌, cond, nat_lt, nat_eq, List, length, Option, Some, None}
 use Rattle.std.specs.Int.{w32, cast_unsigned}
-use Rattle.uring_entry.specs.declared.squeue.Entry.{Entry}
-use Rattle.uring_entry.specs.declared.buffer.Loan.{Loan}
-use Rattle.uring_entry.specs.declared.events.Taken.{Taken}
-use Rattle.uring_entry.specs.FlagBits.{has_bit}
-use Rattle.uring_entry.specs.Loans.{part_of}
+use Rattle.uring_base.specs.declared.squeue.Entry.{Entry}
+use Rattle.uring_base.specs.declared.buffer.Loan.{Loan}
+use Rattle.uring_base.specs.declared.events.Taken.{Taken}
+use Rattle.uring_base.specs.FlagBits.{has_bit}
+use Rattle.uring_base.specs.Loans.{part_of}
 use Rattle.uring_model.specs.declared.jobs.Link.{Link}
 use Rattle.uring_model.specs.declared.jobs.Link.TheVariants.{Free, Soft, Hard}
 use Rattle.uring_model.specs.Machine.{Op, Nop, Read, Write, Fsync, Ftruncate, Cancel, Refused}
@@ -41,3 +41,16 @@ link_of flags = cond (has_bit flags 4) Soft (cond (has_bit flags 8) Hard Free)
 abbrev pub job_of : Taken → Job
 job_of t = record { op = op_of t; buf = part_of t.loan; drain = has_bit t.entry.flags 2; link = link_of t.entry.flags }
 
+-- whether this is one of the six operations that jobs ask
+abbrev pub is_job_operation : Op → Bool
+is_job_operation Nop = true
+is_job_operation (Read file offset) = true
+is_job_operation (Write file offset) = true
+is_job_operation (Fsync file) = true
+is_job_operation (Ftruncate file len) = true
+is_job_operation (Cancel job) = true
+is_job_operation (Refused code) = false
+
+-- the entry asks what a job may ask
+abbrev pub IsJobEntry : Taken → Type 0
+IsJobEntry t = is_job_operation (op_of t) ≡ true

@@ -1,7 +1,7 @@
 -- Which of the jobs that may settle settles next.
 use Rattle.std.specs.Prelude.{◌≡◌, ℕ, ◌/◌, ◌%◌, Bool, false, nat_eq, List, [], ◌∷◌, length, map, drop, Option, Some, None, slice_get}
-use Rattle.uring_entry.specs.declared.events.Event.{Event}
-use Rattle.uring_entry.specs.declared.events.Event.TheVariants.{Turn, Take, Post}
+use Rattle.uring_base.specs.declared.events.Event.{Event}
+use Rattle.uring_base.specs.declared.events.Event.TheVariants.{Turn, Take, Post}
 use Rattle.uring_model.specs.Replay.{State, Place, ready, replay_event}
 
 -- the choice in front, and 1 once they have run out

@@ -1,6 +1,6 @@
 -- When a run is at its end.
 use Rattle.std.specs.Prelude.{◌≡◌, ℕ, false, List, length, [], ◌++◌, map, Some, All, IsSome}
-use Rattle.uring_entry.specs.declared.events.Taken.{Taken}
+use Rattle.uring_base.specs.declared.events.Taken.{Taken}
 use Rattle.uring_model.specs.Machine.{Files}
 use Rattle.uring_model.specs.Jobs.{Job}
 use Rattle.uring_model.specs.Replay.{State, last_unlinked, replay, IsWhole, table}

@@ -1,8 +1,8 @@
 -- What the moves of a partner whose files are told mean.
 use Rattle.std.specs.Prelude.{◌≡◌, ℕ, ◌+◌, false, List, [], ◌∷◌, ◌++◌, length, map, replicate, Option, Some, None, slice_get, slice_set}
-use Rattle.uring_entry.specs.declared.events.Taken.{Taken}
-use Rattle.uring_entry.specs.declared.events.Completion.{Completion}
-use Rattle.uring_entry.specs.Loans.{part_of}
+use Rattle.uring_base.specs.declared.events.Taken.{Taken}
+use Rattle.uring_base.specs.declared.events.Completion.{Completion}
+use Rattle.uring_base.specs.Loans.{part_of}
 use Rattle.uring_model.specs.Machine.{Files}
 use Rattle.uring_model.specs.Jobs.{Job}
 use Rattle.uring_model.specs.Replay.{Result, State, last_unlinked, first_state, replay, table}
@@ -34,7 +34,7 @@ pub record Explained (jobs : List Job) (files : Files) (choices : List ℕ) (ms 
   pub state : State
   pub replays : replay jobs files (journal_of (log_of ms)) ≡ Some state
   pub chosen : IsChosen (journal_of (log_of ms)) choices false (first_state jobs files)
-  pub files_at_end : state.files ≡ b.files
+  pub files_at_end : state.files ≡ b.world
   pub outcomes : table state ≡ record_all (replicate (length jobs) None) (posted ms)
   pub fresh : AllFresh (replicate (length jobs) None) (posted ms)
 
@@ -52,10 +52,10 @@ CallsAreExplained =
 
 -- whole calls to a partner that is idle are moves from its files and choices
 abbrev pub IdleCallsAreMoves : Type 0
-IdleCallsAreMoves = (a b : PartnerState) (ms : List Move) → IsIdle a → IsServed (Some a) ms (Some b) → Steps false (idle a.files a.choices) ms b
+IdleCallsAreMoves = (a b : PartnerState) (ms : List Move) → IsIdle a → IsServed (Some a) ms (Some b) → Steps false (idle a.world a.choices) ms b
 
 -- the same for whole calls to any partner that is idle
 abbrev pub IdlePartnersAreExplained : Type 0
 IdlePartnersAreExplained =
     (jobs : List Job) (ms : List Move) (ahead : List Taken) (a b : PartnerState)
-    → IsIdle a → map job_of (took ms ++ ahead) ≡ last_unlinked jobs → Numbered 0 (took ms ++ ahead) → IsServed (Some a) ms (Some b) → Explained jobs a.files a.choices ms b
+    → IsIdle a → map job_of (took ms ++ ahead) ≡ last_unlinked jobs → Numbered 0 (took ms ++ ahead) → IsServed (Some a) ms (Some b) → Explained jobs a.world a.choices ms b

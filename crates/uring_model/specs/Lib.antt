@@ -14,9 +14,6 @@ pub mod Progress
 pub mod Ends
 pub mod Honest
 pub mod Joins
-pub mod World
-pub mod Served
 pub mod Words
 pub mod Rows
-pub use Rattle.uring_entry.specs.Sizes as Sizes
-pub mod Viewed
+pub mod Refines

@@ -1,7 +1,7 @@
 -- Nothing that was taken waits for ever.
 use Rattle.std.specs.Prelude.{◌≡◌, ℕ, ◌+◌, ◌<◌, ◌≤◌, suc, Bool, true, false, List, [], ◌∷◌, ◌++◌, length, map}
-use Rattle.uring_entry.specs.declared.events.Taken.{Taken}
-use Rattle.uring_entry.specs.declared.events.Completion.{Completion}
+use Rattle.uring_base.specs.declared.events.Taken.{Taken}
+use Rattle.uring_base.specs.declared.events.Completion.{Completion}
 use Rattle.uring_model.specs.declared.pending.Pending.{Pending}
 use Rattle.uring_model.specs.Jobs.{Job}
 use Rattle.uring_model.specs.Replay.{Row, all_done, may}

@@ -1,10 +1,10 @@
 -- What a journal means: its events are folded over the files and a row for each job taken.
 use Rattle.std.specs.Prelude.{◌≡◌, ℕ, ◌+◌, zero, suc, Bool, true, false, ◌&&◌, ◌||◌, not, if◌then◌else◌, cond, nat_lt, nat_eq, List, [], ◌∷◌, ◌++◌, length, replicate, ℤ, pos, negsuc, Option, Some, None, ◌⊎◌}
 use Rattle.std.specs.Ordering.{int_eq}
-use Rattle.uring_entry.specs.declared.events.Event.{Event}
-use Rattle.uring_entry.specs.declared.events.Event.TheVariants.{Turn, Take, Post}
+use Rattle.uring_base.specs.declared.events.Event.{Event}
+use Rattle.uring_base.specs.declared.events.Event.TheVariants.{Turn, Take, Post}
 use Rattle.uring_model.specs.declared.jobs.Link.TheVariants.{Free}
-use Rattle.uring_model.specs.Machine.{Files, Op, Answer, step, canceled}
+use Rattle.uring_model.specs.Machine.{Files, Op, FileAnswer, step, canceled}
 use Rattle.uring_model.specs.Jobs.{Job, linked, is_soft, moves_bytes}
 
 -- what came of a job
@@ -107,14 +107,14 @@ mark_if None rows = rows
 mark_if (Some t) rows = mark t 0 rows
 
 -- what the settling of a job gives
-abbrev pub settle : Files → Place → Answer
+abbrev pub settle : Files → Place → FileAnswer
 settle files p = if p.marked || severed false p.before then canceled files p.job.buf else step files (can_mark_other p) p.job.op p.job.buf
 
-abbrev pub outcome_of : Answer → Result
+abbrev pub outcome_of : FileAnswer → Result
 outcome_of a = record { result = a.result; buf = a.buf }
 
-abbrev pub settled : State → Place → Answer → State
-settled s p a = record { files = a.files; rows = mark_if a.marks (p.before ++ Done p.job (outcome_of a) ∷ p.after); rest = s.rest }
+abbrev pub settled : State → Place → FileAnswer → State
+settled s p a = record { files = a.world; rows = mark_if a.marks (p.before ++ Done p.job (outcome_of a) ∷ p.after); rest = s.rest }
 
 abbrev pub post_at : State → ℤ → Option Place → Option State
 post_at s r None = None

@@ -7,7 +7,7 @@ use Rattle.uring_model.specs.declared.rows.Settled.{Settled}
 use Rattle.uring_model.specs.declared.rows.Row as code
 use Rattle.uring_model.specs.declared.settling.Settling.{Settling}
 use Rattle.uring_model.specs.declared.replayed.Replayed.{Replayed}
-use Rattle.uring_model.specs.Machine.{Files, Answer}
+use Rattle.uring_model.specs.Machine.{Files, FileAnswer}
 use Rattle.uring_model.specs.Jobs.{Job, asked, all_asked, buf_lent, moves_bytes}
 use Rattle.uring_model.specs.Replay.{Row, Open, Done, Result, Place, State}
 
@@ -48,8 +48,8 @@ outcomes_told (Done job r ∷ rows) = Some (outcome_told job r) ∷ outcomes_tol
 abbrev pub table_told : State → List (Option Outcome)
 table_told s = outcomes_told s.rows ++ replicate (length s.rest) None
 
-abbrev pub answer_of : Settling → Files → Answer
-answer_of s files = record { result = s.answered.result; buf = s.buf; files = files; marks = s.answered.marks }
+abbrev pub answer_of : Settling → Files → FileAnswer
+answer_of s files = record { result = s.answered.result; buf = s.buf; world = files; marks = s.answered.marks }
 
 abbrev pub place_between : List code.Row → code.Row → List code.Row → Place
 place_between before row after = record { before = rows_in before; job = asked row.job; marked = row.marked; after = rows_in after }

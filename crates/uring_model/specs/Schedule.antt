@@ -1,11 +1,11 @@
 -- The schedule over any world: links, drains, choices, marks, severing, and the turn.
 use Rattle.std.specs.Prelude.{◌≡◌, ℕ, ◌/◌, ◌%◌, zero, suc, Bool, true, false, ◌&&◌, ◌||◌, not, if◌then◌else◌, cond, nat_lt, nat_eq, List, [], ◌∷◌, ◌++◌, length, drop, ℤ, negsuc, Option, Some, None, slice_get}
-use Rattle.uring_entry.specs.declared.buffer.Loan.{Loan}
-use Rattle.uring_entry.specs.declared.events.Taken.{Taken}
-use Rattle.uring_entry.specs.declared.events.Completion.{Completion}
-use Rattle.uring_entry.specs.Loans.{part_of}
+use Rattle.uring_base.specs.declared.buffer.Loan.{Loan}
+use Rattle.uring_base.specs.declared.events.Taken.{Taken}
+use Rattle.uring_base.specs.declared.events.Completion.{Completion}
+use Rattle.uring_base.specs.Loans.{part_of}
 use Rattle.uring_model.specs.declared.pending.Pending.{Pending}
-use Rattle.uring_model.specs.Machine.{AnswerIn}
+use Rattle.uring_model.specs.Machine.{Answer}
 use Rattle.uring_model.specs.Jobs.{linked}
 use Rattle.uring_model.specs.Replay.{cuts, keep_if}
 use Rattle.uring_model.specs.Chosen.{choice, stops}
@@ -80,11 +80,11 @@ named c ready = slice_get ready ((c / 2) % length ready)
 
 pub record Machine (W : Type 0) : Type 0 where
   pub can_answer : W → Taken → Bool
-  pub answer : W → (ℕ → Bool) → Taken → AnswerIn W
+  pub answer : W → (ℕ → Bool) → Taken → Answer W
   pub back : Taken → ℤ → List ℕ → Option Loan
 
 pub record State (W : Type 0) : Type 0 where
-  pub files : W
+  pub world : W
   pub pending : List Pending
   pub tail : Option Bool
   pub choices : List ℕ
@@ -94,23 +94,23 @@ pub record IsIdle {W : Type 0} (a : State W) : Type 0 where
   pub tail : a.tail ≡ None
 
 abbrev pub idle : {W : Type 0} → W → List ℕ → State W
-idle files choices = record { files = files; pending = []; tail = None; choices = choices }
+idle files choices = record { world = files; pending = []; tail = None; choices = choices }
 
-abbrev pub canceled_in : {W : Type 0} → W → List ℕ → AnswerIn W
-canceled_in w buf = record { result = negsuc 124; buf = buf; files = w; marks = None }
+abbrev pub canceled_in : {W : Type 0} → W → List ℕ → Answer W
+canceled_in w buf = record { result = negsuc 124; buf = buf; world = w; marks = None }
 
 abbrev pub after_take : {W : Type 0} → State W → Taken → State W
-after_take a t = record { files = a.files; pending = a.pending ++ record { taken = t; cut = cut_of a.tail; marked = false } ∷ []; tail = tail_for (linked (job_of t).link) false; choices = a.choices }
+after_take a t = record { world = a.world; pending = a.pending ++ record { taken = t; cut = cut_of a.tail; marked = false } ∷ []; tail = tail_for (linked (job_of t).link) false; choices = a.choices }
 
-abbrev pub cut_after : {W : Type 0} → Cursor → AnswerIn W → Bool
+abbrev pub cut_after : {W : Type 0} → Cursor → Answer W → Bool
 cut_after c a = cuts c.item.cut (job_of c.item.taken) a.result
 
-abbrev pub after_settle : {W : Type 0} → State W → Cursor → AnswerIn W → State W
+abbrev pub after_settle : {W : Type 0} → State W → Cursor → Answer W → State W
 after_settle s c a =
     let job = job_of c.item.taken in
     let cut = cut_after c a in
     record {
-      files = a.files;
+      world = a.world;
       pending = mark_first_if a.marks (c.front ++ pass (linked job.link) cut c.back);
       tail = pass_end (linked job.link) cut c.back s.tail;
       choices = drop 1 s.choices;
@@ -132,27 +132,27 @@ take_all a (t ∷ ts) = take_all (after_take a t) ts
 
 module _ {W : Type 0} (m : Machine W) where
   abbrev pub cursors : State W → List Cursor
-  cursors a = ready_cursors (m.can_answer a.files) [] a.pending
+  cursors a = ready_cursors (m.can_answer a.world) [] a.pending
 
-  abbrev pub answer_to : W → Cursor → AnswerIn W
+  abbrev pub answer_to : W → Cursor → Answer W
   answer_to w c = if c.item.marked || c.item.cut then canceled_in w (job_of c.item.taken).buf else m.answer w (other_in c) c.item.taken
 
-  abbrev pub completion_of : Taken → AnswerIn W → Completion
+  abbrev pub completion_of : Taken → Answer W → Completion
   completion_of t a = record { user_data = t.entry.user_data; result = a.result; flags = 0; big = 0 ∷ 0 ∷ []; loan = m.back t a.result a.buf }
 
   pub record Settles (a : State W) (c : Completion) : Type 0 where
     pub cursor : Cursor
     pub chosen : named (choice a.choices) (cursors a) ≡ Some cursor
-    pub completion : c ≡ completion_of cursor.item.taken (answer_to a.files cursor)
+    pub completion : c ≡ completion_of cursor.item.taken (answer_to a.world cursor)
 
   abbrev pub settled_by : State W → Cursor → State W
-  settled_by a c = after_settle a c (answer_to a.files c)
+  settled_by a c = after_settle a c (answer_to a.world c)
 
   abbrev pub Steps : Bool → State W → List Move → State W → Type 0
   Steps over a [] b = b ≡ a
   Steps over a (Turned p ∷ ms) b = Steps false a ms b
   Steps over a (Took t ∷ ms) b = (over ≡ false) × Steps false (after_take a t) ms b
-  Steps over a (Posted c ∷ ms) b = (over ≡ false) × (s : Settles a c) × Steps (stops (choice a.choices)) (after_settle a s.cursor (answer_to a.files s.cursor)) ms b
+  Steps over a (Posted c ∷ ms) b = (over ≡ false) × (s : Settles a c) × Steps (stops (choice a.choices)) (after_settle a s.cursor (answer_to a.world s.cursor)) ms b
 
   abbrev pub IsServed : Option (State W) → List Move → Option (State W) → Type 0
   IsServed None ms after = after ≡ None
@@ -161,7 +161,7 @@ module _ {W : Type 0} (m : Machine W) where
 
   abbrev pub settle_then : State W → (State W → Outturn W) → Option Cursor → Outturn W
   settle_then a go None = stays a
-  settle_then a go (Some c) = posting (completion_of c.item.taken (answer_to a.files c)) (if stops (choice a.choices) then stays (settled_by a c) else go (settled_by a c))
+  settle_then a go (Some c) = posting (completion_of c.item.taken (answer_to a.world c)) (if stops (choice a.choices) then stays (settled_by a c) else go (settled_by a c))
 
   abbrev pub settle_turn : ℕ → State W → Outturn W
   settle_turn zero a = stays a

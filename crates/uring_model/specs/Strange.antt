@@ -1,9 +1,9 @@
 -- Posts that nothing asked for.
 use Rattle.std.specs.Prelude.{ℕ, ◌+◌, Bool, false, ◌&&◌, ◌||◌, not, if◌then◌else◌, cond, nat_lt, nat_eq, is_some, is_none, List, [], ◌∷◌, Option, Some, None}
 use Rattle.std.specs.List.{list_any}
-use Rattle.uring_entry.specs.declared.buffer.Loan.{Loan}
-use Rattle.uring_entry.specs.declared.events.LogEvent.{LogEvent}
-use Rattle.uring_entry.specs.declared.events.LogEvent.TheVariants.{Turn, Take, Post}
+use Rattle.uring_base.specs.declared.buffer.Loan.{Loan}
+use Rattle.uring_base.specs.declared.events.LogEvent.{LogEvent}
+use Rattle.uring_base.specs.declared.events.LogEvent.TheVariants.{Turn, Take, Post}
 
 -- What is known at a place of a log: the takes before it; the takes before the last turn before it and that turn's
 -- number, which is how many jobs were started; and the jobs that a final post before it ended.

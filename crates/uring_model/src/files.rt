@@ -7,7 +7,7 @@ ghost use Rattle.std.specs.FinMap as map;
 use std::alloc::{AllocError, Global};
 use std::collections::BTreeMap;
 use std::marker::Model;
-use uring_entry::Buf;
+use uring_base::Buf;
 
 /// Files by number, seen as a finite map from numbers to bytes.
 #[derive(Drop)]

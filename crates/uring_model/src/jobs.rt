@@ -1,6 +1,6 @@
 //! Jobs and what comes of them.
 
-use uring_entry::{Buf, Event};
+use uring_base::{Buf, Event};
 
 /// Whether the next job hangs on this one. A soft link is cut where this job fails, a hard one
 /// is not.

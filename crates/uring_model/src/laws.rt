@@ -5,7 +5,6 @@ ghost use Rattle.uring_model.specs.Progress.{LowestMaySettle, FrontIsReady, Turn
 ghost use Rattle.uring_model.specs.Ends.{SetWhereWhole, WholeWhereSet, WholeByCount, WholeAtEnd, IdleWhereWhole};
 ghost use Rattle.uring_model.specs.Honest.{NoPostIsStrange, PostsAnswer};
 ghost use Rattle.uring_model.specs.Joins.{MovesJoin, NoMoveStays, TurnsPostTheirs};
-ghost use Rattle.uring_model.specs.World.{StepsAreSeen, TurnsAreSeen, PlainPartnersAreExplained};
 ghost use Rattle.uring_model.specs.Words.{MayInWords, SeveredInWords, ReadyInWords, PlaceInWords, CancelInWords, MarkInWords};
 
 /// What an idle partner does over entries that ask what the jobs ask makes a journal that
@@ -60,14 +59,6 @@ pub fn moves_join()
     ensures join { MovesJoin }
     ensures none { NoMoveStays }
     ensures turn { TurnsPostTheirs }
-{}
-
-/// While the larger world is plain, and nothing is asked but the six operations, it goes as the
-/// files do, and what it does is explained.
-pub fn plain_is_files()
-    ensures steps { StepsAreSeen }
-    ensures turns { TurnsAreSeen }
-    ensures explained { PlainPartnersAreExplained }
 {}
 
 /// What the recursions on rows say of the jobs.

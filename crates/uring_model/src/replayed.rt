@@ -14,7 +14,7 @@ use crate::rows::{Row, Settled, all_done, mark, may_settle};
 use crate::settling::settle;
 use std::alloc::{AllocError, Global};
 use std::collections::VecDeque;
-use uring_entry::Event;
+use uring_base::Event;
 
 /// Where a replay stands: the files, a row for each job taken, and the jobs not taken.
 #[derive(Drop)]

@@ -7,7 +7,7 @@ ghost use Rattle.uring_model.specs.Replay.{waits, severed, drains_done, all_done
 ghost use Rattle.uring_model.specs.Rows.{row_in, rows_in, HasCount, HasCounts, is_markable};
 
 use crate::jobs::{Job, JobKind, Link};
-use uring_entry::Buf;
+use uring_base::Buf;
 
 /// What a settled job answered. The buffer is empty where the job has none.
 #[derive(Drop)]

@@ -12,7 +12,7 @@ use crate::machine::{Answered, perform};
 use crate::request::Asked;
 use crate::rows::{Row, can_mark, is_severed};
 use std::alloc::{AllocError, Global};
-use uring_entry::Buf;
+use uring_base::Buf;
 
 /// What a settling answers, and what it leaves in the job's buffer.
 #[derive(Drop)]

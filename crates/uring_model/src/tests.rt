@@ -4,8 +4,8 @@ use crate::{
 };
 use std::alloc::{AllocError, Global};
 use std::test::Fail;
-use uring_entry::squeue::Entry;
-use uring_entry::{Buf, Event, Loan, Taken};
+use uring_base::squeue::Entry;
+use uring_base::{Buf, Event, Loan, Taken};
 
 #[derive(Debug, Drop)]
 enum Trouble {

@@ -1,13 +1,13 @@
 -- For each operation what its builder begins with, and the words of its entry: those that aren't 0, in the order of the layout.
 use Rattle.std.specs.Prelude.{ℕ, ⊤, ◌+◌, ◌<◌, pos, bit_or, false, if◌then◌else◌, None}
 use Rattle.std.specs.Option.{unwrap_or}
-use Rattle.uring_entry.specs.declared.squeue.Entry.{Entry}
-use Rattle.uring_entry.specs.declared.types.Fd.{Fd}
-use Rattle.uring_entry.specs.declared.types.Target.{Target}
-use Rattle.uring_entry.specs.declared.types.Target.TheVariants.{Fd as raw, Fixed as registered}
-use Rattle.uring_entry.specs.Words.{blank, no_fd, bits_of, long_bits_of}
-use Rattle.uring_entry.specs.Targets.{on}
-use Rattle.uring_entry.specs.FlagBits.{fsync_bits, no_fsync_flags}
+use Rattle.uring_base.specs.declared.squeue.Entry.{Entry}
+use Rattle.uring_base.specs.declared.types.Fd.{Fd}
+use Rattle.uring_base.specs.declared.types.Target.{Target}
+use Rattle.uring_base.specs.declared.types.Target.TheVariants.{Fd as raw, Fixed as registered}
+use Rattle.uring_base.specs.Words.{blank, no_fd, bits_of, long_bits_of}
+use Rattle.uring_base.specs.Targets.{on}
+use Rattle.uring_base.specs.FlagBits.{fsync_bits, no_fsync_flags}
 use Rattle.uring_types.specs.FlagBits.{timeout_bits, no_timeout_flags}
 use Rattle.uring_ops_file.specs.declared.cancels.AsyncCancel.{AsyncCancel}
 use Rattle.uring_ops_file.specs.declared.nop.Nop.{Nop}

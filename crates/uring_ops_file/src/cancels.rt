@@ -2,7 +2,7 @@
 
 ghost use Rattle.std.specs.Prelude.{◌≡◌};
 
-use uring_entry::squeue::Entry;
+use uring_base::squeue::Entry;
 
 /// Cancels an operation that isn't done. Its result is 0, or an errno below 0: `ENOENT` where
 /// there is none. The field is what `new` was given.

@@ -2,7 +2,7 @@
 
 ghost use Rattle.std.specs.Prelude.{◌≡◌};
 
-use uring_entry::squeue::Entry;
+use uring_base::squeue::Entry;
 
 /// Does nothing, and answers 0.
 #[derive(Drop)]

@@ -2,8 +2,8 @@
 
 ghost use Rattle.std.specs.Prelude.{◌≡◌};
 
-use uring_entry::squeue::Entry;
-use uring_entry::types::Fd;
+use uring_base::squeue::Entry;
+use uring_base::types::Fd;
 
 /// Tells what a file is, as `statx` does. Its result is 0, or an errno below 0. Each field is what
 /// `new` was given, or what the setter of its name was.

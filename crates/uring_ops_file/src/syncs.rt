@@ -3,8 +3,8 @@
 ghost use Rattle.std.specs.Prelude.{◌≡◌};
 
 use bitflags::Flags as _;
-use uring_entry::squeue::Entry;
-use uring_entry::types::{FsyncFlags, Target, UseTarget};
+use uring_base::squeue::Entry;
+use uring_base::types::{FsyncFlags, Target, UseTarget};
 
 /// Brings a file to its device, as `fsync` does. Its result is 0, or an errno below 0. Each field
 /// is what `new` was given, or what the setter of its name was.

@@ -2,7 +2,7 @@
 
 ghost use Rattle.std.specs.Prelude.{◌≡◌};
 
-use uring_entry::squeue::Entry;
+use uring_base::squeue::Entry;
 
 /// Puts other files into the table of registered files. Its result is how many it put in, or an
 /// errno below 0. Each field is what `new` was given, or what the setter of its name was.

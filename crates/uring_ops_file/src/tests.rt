@@ -3,8 +3,8 @@ use crate::{
     PollAdd, PollRemove, Read, ReadFixed, Readv, Statx, SyncFileRange, Timeout, TimeoutRemove,
     TimeoutUpdate, Write, WriteFixed, Writev,
 };
-use uring_entry::squeue::Entry;
-use uring_entry::types::{Fd, Fixed, FsyncFlags, Target};
+use uring_base::squeue::Entry;
+use uring_base::types::{Fd, Fixed, FsyncFlags, Target};
 use uring_types::{DestinationSlot, TimeoutFlags};
 
 /// A Read of 1024 bytes from descriptor 5 into loan 7.

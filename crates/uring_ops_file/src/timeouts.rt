@@ -3,7 +3,7 @@
 ghost use Rattle.std.specs.Prelude.{◌≡◌};
 
 use bitflags::Flags as _;
-use uring_entry::squeue::Entry;
+use uring_base::squeue::Entry;
 use uring_types::TimeoutFlags;
 
 /// Waits for a time, or for a count of other completions, whichever comes first. Its result is an

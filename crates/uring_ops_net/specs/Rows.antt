@@ -1,13 +1,13 @@
 -- For each operation what its builder begins with, and the words of its entry: those that aren't 0, in the order of the layout.
 use Rattle.std.specs.Prelude.{ℕ, ℤ, pos, Option, None, false, bit_or, replicate, take, drop, if◌then◌else◌, ◌+◌, ◌*◌, ◌^◌, unwrap_or}
-use Rattle.uring_entry.specs.declared.squeue.Entry.{Entry}
+use Rattle.uring_base.specs.declared.squeue.Entry.{Entry}
 use Rattle.uring_large.specs.declared.squeue.Entry128.{Entry128}
-use Rattle.uring_entry.specs.declared.types.Fd.{Fd}
-use Rattle.uring_entry.specs.declared.types.Fixed.{Fixed}
-use Rattle.uring_entry.specs.declared.types.Target.{Target}
-use Rattle.uring_entry.specs.Words.{blank, bits_of, long_bits_of, where_some}
-use Rattle.uring_entry.specs.Targets.{on}
-use Rattle.uring_entry.specs.Bytes.{long_at}
+use Rattle.uring_base.specs.declared.types.Fd.{Fd}
+use Rattle.uring_base.specs.declared.types.Fixed.{Fixed}
+use Rattle.uring_base.specs.declared.types.Target.{Target}
+use Rattle.uring_base.specs.Words.{blank, bits_of, long_bits_of, where_some}
+use Rattle.uring_base.specs.Targets.{on}
+use Rattle.uring_base.specs.Bytes.{long_at}
 use Rattle.uring_types.specs.Slots.{chosen_by_partner}
 use Rattle.uring_ops_net.specs.Marks.{buffer_select, recv_multishot, fixed_buf, bundle, accept_multishot, flags_pass, send_fd, set_sock_opt, cmd_fixed}
 use Rattle.uring_ops_net.specs.declared.accepts.Accept.{Accept}

@@ -4,8 +4,8 @@ ghost use Rattle.std.specs.Prelude.{◌≡◌};
 
 use crate::marks::ACCEPT_MULTISHOT;
 use crate::slots::slot_word;
-use uring_entry::squeue::Entry;
-use uring_entry::types::{Target, UseTarget};
+use uring_base::squeue::Entry;
+use uring_base::types::{Target, UseTarget};
 use uring_types::DestinationSlot;
 
 /// Accepts a connection, as `accept4` does. Its result is the new socket's number, 0 where it went

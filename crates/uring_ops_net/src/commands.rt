@@ -1,13 +1,13 @@
 //! Commands to files and devices.
 
 ghost use Rattle.std.specs.Prelude.{◌≡◌};
-ghost use Rattle.uring_entry.specs.Words.{where_some};
+ghost use Rattle.uring_base.specs.Words.{where_some};
 ghost use Rattle.uring_ops_net.specs.Marks.{cmd_fixed};
 
 use crate::marks::CMD_FIXED;
-use uring_entry::squeue::Entry;
-use uring_entry::types::{Target, UseTarget};
-use uring_entry::words::long_from;
+use uring_base::squeue::Entry;
+use uring_base::types::{Target, UseTarget};
+use uring_base::words::long_from;
 use uring_large::squeue::Entry128;
 
 /// A command of 16 bytes to a file or device, much as `ioctl`. Its result is that of the command,

@@ -2,8 +2,8 @@
 
 ghost use Rattle.std.specs.Prelude.{◌≡◌};
 
-use uring_entry::squeue::Entry;
-use uring_entry::types::{Fd, Target, UseTarget};
+use uring_base::squeue::Entry;
+use uring_base::types::{Fd, Target, UseTarget};
 
 /// Changes what an epoll instance watches, as `epoll_ctl` does. Its result is 0, or an errno below
 /// 0. Each field is what `new` was given.

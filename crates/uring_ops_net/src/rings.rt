@@ -3,8 +3,8 @@
 ghost use Rattle.std.specs.Prelude.{◌≡◌};
 
 use crate::marks::{FLAGS_PASS, SEND_FD};
-use uring_entry::squeue::Entry;
-use uring_entry::types::{Fd, Fixed};
+use uring_base::squeue::Entry;
+use uring_base::types::{Fd, Fixed};
 use uring_types::DestinationSlot;
 
 /// Posts a completion in another ring. Its own result is 0, or an errno below 0. Each field is what

@@ -3,8 +3,8 @@
 ghost use Rattle.std.specs.Prelude.{◌≡◌, ◌≤◌};
 
 use crate::marks::{BUNDLE, FIXED_BUF};
-use uring_entry::squeue::{Entry, Flags};
-use uring_entry::types::{Target, UseTarget};
+use uring_base::squeue::{Entry, Flags};
+use uring_base::types::{Target, UseTarget};
 
 /// Sends from one buffer, as `send` does, or as `sendto` where an address is set. Its result is a
 /// count of bytes, or an errno below 0. Each field is what `new` was given, or what the setter of

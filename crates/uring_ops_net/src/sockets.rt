@@ -4,8 +4,8 @@ ghost use Rattle.std.specs.Prelude.{◌≡◌};
 
 use crate::marks::SET_SOCK_OPT;
 use crate::slots::slot_word;
-use uring_entry::squeue::Entry;
-use uring_entry::types::{Target, UseTarget};
+use uring_base::squeue::Entry;
+use uring_base::types::{Target, UseTarget};
 use uring_types::DestinationSlot;
 
 /// Connects a socket, as `connect` does. Its result is 0, or an errno below 0. Each field is what

@@ -1,12 +1,12 @@
 -- For each operation what its builder begins with, and the words of its entry: those that aren't 0, in the order of the layout.
 use Rattle.std.specs.Prelude.{ℕ, ℤ, pos, bit_or, unsigned_abs, None}
 use Rattle.std.specs.Option.{unwrap_or}
-use Rattle.uring_entry.specs.declared.squeue.Entry.{Entry}
-use Rattle.uring_entry.specs.declared.types.Fd.{Fd}
-use Rattle.uring_entry.specs.declared.types.Fixed.{Fixed}
-use Rattle.uring_entry.specs.declared.types.Target.{Target}
-use Rattle.uring_entry.specs.Words.{blank, no_fd, bits_of, long_bits_of, signed_of}
-use Rattle.uring_entry.specs.Targets.{on, number_of, registered_mark}
+use Rattle.uring_base.specs.declared.squeue.Entry.{Entry}
+use Rattle.uring_base.specs.declared.types.Fd.{Fd}
+use Rattle.uring_base.specs.declared.types.Fixed.{Fixed}
+use Rattle.uring_base.specs.declared.types.Target.{Target}
+use Rattle.uring_base.specs.Words.{blank, no_fd, bits_of, long_bits_of, signed_of}
+use Rattle.uring_base.specs.Targets.{on, number_of, registered_mark}
 use Rattle.uring_types.specs.Cancel.{Cancel, target_word}
 use Rattle.uring_ops_path.specs.declared.advice.Fadvise.{Fadvise}
 use Rattle.uring_ops_path.specs.declared.advice.Madvise.{Madvise}

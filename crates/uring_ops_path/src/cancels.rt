@@ -2,7 +2,7 @@
 
 ghost use Rattle.std.specs.Prelude.{◌≡◌};
 
-use uring_entry::squeue::Entry;
+use uring_base::squeue::Entry;
 use uring_types::CancelBuilder;
 
 /// Cancels operations by their number, by what they act on, or all of them. Its result is 0, or an

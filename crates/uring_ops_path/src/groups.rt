@@ -2,7 +2,7 @@
 
 ghost use Rattle.std.specs.Prelude.{◌≡◌};
 
-use uring_entry::squeue::Entry;
+use uring_base::squeue::Entry;
 
 /// Lends a group of buffers of one length, of which operations with `BUFFER_SELECT` take theirs.
 /// Its result is 0, or an errno below 0. Each field is what `new` was given.

@@ -2,8 +2,8 @@
 
 ghost use Rattle.std.specs.Prelude.{◌≡◌};
 
-use uring_entry::squeue::Entry;
-use uring_entry::types::{Fixed, Target};
+use uring_base::squeue::Entry;
+use uring_base::types::{Fixed, Target};
 
 /// Gives a registered file a descriptor, too. Its result is the descriptor, or an errno below 0.
 /// Each field is what `new` was given.

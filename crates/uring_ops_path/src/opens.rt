@@ -2,8 +2,8 @@
 
 ghost use Rattle.std.specs.Prelude.{◌≡◌};
 
-use uring_entry::squeue::Entry;
-use uring_entry::types::Fd;
+use uring_base::squeue::Entry;
+use uring_base::types::Fd;
 use uring_types::DestinationSlot;
 
 /// Opens a file, as `openat2` does. Its result is a descriptor, 0 for a slot that was given, the

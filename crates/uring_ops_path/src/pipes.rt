@@ -1,10 +1,10 @@
 //! Pipes, and moves and copies through them.
 
 ghost use Rattle.std.specs.Prelude.{◌≡◌};
-ghost use Rattle.uring_entry.specs.Targets.{number_of, registered_mark};
+ghost use Rattle.uring_base.specs.Targets.{number_of, registered_mark};
 
-use uring_entry::squeue::Entry;
-use uring_entry::types::{Target, UseTarget};
+use uring_base::squeue::Entry;
+use uring_base::types::{Target, UseTarget};
 use uring_types::DestinationSlot;
 
 /// Moves bytes from one file to another, one of which is a pipe, as `splice` does. Its result is a

@@ -2,8 +2,8 @@
 
 ghost use Rattle.std.specs.Prelude.{◌≡◌};
 
-use uring_entry::squeue::{Entry, Flags};
-use uring_entry::types::{Target, UseTarget};
+use uring_base::squeue::{Entry, Flags};
+use uring_base::types::{Target, UseTarget};
 
 /// Reads again each time that there is something to read, into a buffer of a group each time. The
 /// result of each completion is a count of bytes, or an errno below 0; all but the last have

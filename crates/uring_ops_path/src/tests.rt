@@ -3,8 +3,8 @@ use crate::{
     GetXattr, LinkAt, Madvise, MkDirAt, OpenAt2, Pipe, ProvideBuffers, ReadMulti, ReadvFixed,
     RemoveBuffers, RenameAt, SetXattr, Splice, SymlinkAt, Tee, UnlinkAt, WaitId, WritevFixed,
 };
-use uring_entry::squeue::Entry;
-use uring_entry::types::{Fd, Fixed};
+use uring_base::squeue::Entry;
+use uring_base::types::{Fd, Fixed};
 use uring_types::{CancelBuilder, DestinationSlot};
 
 /// The operation codes of the Linux io_uring header.

@@ -2,7 +2,7 @@
 
 ghost use Rattle.std.specs.Prelude.{◌≡◌};
 
-use uring_entry::squeue::Entry;
+use uring_base::squeue::Entry;
 
 /// Waits until a child of this process changes its state, as `waitid` does. Its result is 0, or an
 /// errno below 0. Each field is what `new` was given, or what the setter of its name was.

@@ -2,8 +2,8 @@
 
 ghost use Rattle.std.specs.Prelude.{◌≡◌};
 
-use uring_entry::squeue::Entry;
-use uring_entry::types::{Target, UseTarget};
+use uring_base::squeue::Entry;
+use uring_base::types::{Target, UseTarget};
 
 /// Writes from several parts of a registered buffer, one after the other, as `pwritev2` does. Its
 /// result is a count of bytes, or an errno below 0. Each field is what `new` was given, or what the

@@ -2,18 +2,18 @@
 use Rattle.std.specs.Prelude.{◌≡◌, ℕ, Bool, true, false, ◌||◌, cond, List, ◌++◌, length, take, Option, Some, None, Result, Ok, Err, OnOk, refl}
 use Rattle.std.proofs.Common.{ap, sym, ◌∙◌, arith, length-append, length-drop}
 use Rattle.std.proofs.lemmas.List.{length-take}
-use Rattle.uring_entry.specs.declared.buffer.Loan.{Loan}
-use Rattle.uring_entry.specs.Loans.{part_of, with_part}
+use Rattle.uring_base.specs.declared.buffer.Loan.{Loan}
+use Rattle.uring_base.specs.Loans.{part_of, with_part}
 use Rattle.uring_model.specs.declared.pending.Pending.{Pending}
 use Rattle.uring_model.specs.declared.request.Asked.{Asked}
-use Rattle.uring_model.specs.Machine.{Files, Answer, step, canceled}
+use Rattle.uring_model.specs.Machine.{Files, FileAnswer, step, canceled}
 use Rattle.uring_model.specs.Asked.{op_in, answer_in, FindsAs}
 use Rattle.uring_model.specs.Partner.{job_of, has_unmarked}
 use Rattle.uring_model.proofs.Steps.{step_finds}
 use Rattle.uring_model.proofs.Lengths.{step-length}
 use Rattle.uring_partner.specs.Settling.{answered_among, bare, settled_item}
 
-neither : (a b : Bool) (x y : Answer) → a ≡ false → b ≡ false → y ≡ cond (a || b) x y
+neither : (a b : Bool) (x y : FileAnswer) → a ≡ false → b ≡ false → y ≡ cond (a || b) x y
 neither a b x y p q = rw (p, q) refl
 
 pub performed_among : (files : Files) (rest : List Pending) (i : Pending) (asked : Asked) (b : Bool) → i.marked ≡ false → i.cut ≡ false → op_in asked ≡ (job_of i.taken).op → FindsAs (λ number. has_unmarked number rest) b asked
@@ -25,7 +25,7 @@ performed_among files rest i asked b unmarked uncut asks finds =
 
 -- the loan keeps all but the bytes in its part
 
-either_length : (b : Bool) (x y : Answer) (n : ℕ) → length x.buf ≡ n → length y.buf ≡ n → length (cond b x y).buf ≡ n
+either_length : (b : Bool) (x y : FileAnswer) (n : ℕ) → length x.buf ≡ n → length y.buf ≡ n → length (cond b x y).buf ≡ n
 either_length true x y n p q = p
 either_length false x y n p q = q
 

@@ -2,14 +2,14 @@
 use Rattle.std.specs.Prelude.{List, [], ◌∷◌, ◌++◌, map, Some, refl}
 use Rattle.std.proofs.lemmas.List.{map-append}
 use Rattle.std.proofs.Common.{ℕ, ap, sym, subst, ◌∙◌, append_assoc, append-nil}
-use Rattle.uring_entry.specs.declared.events.Taken.{Taken}
-use Rattle.uring_entry.specs.declared.events.Completion.{Completion}
-use Rattle.uring_entry.specs.declared.events.LogEvent.{LogEvent}
+use Rattle.uring_base.specs.declared.events.Taken.{Taken}
+use Rattle.uring_base.specs.declared.events.Completion.{Completion}
+use Rattle.uring_base.specs.declared.events.LogEvent.{LogEvent}
 use Rattle.uring_model.specs.Moves.{Move, Turned, Took, Posted, took, posted, log_of}
 use Rattle.uring_model.proofs.Joins.{took-append, posted-append, log-append}
 use Rattle.uring_partner.specs.declared.hostile.HostilePartner.{HostilePartner}
 use Rattle.uring_model.specs.Partner.{file_machine}
-use Rattle.partner_calls.specs.Calls.{Enters}
+use Rattle.partner_traits.specs.Calls.{Enters}
 use Rattle.uring_partner.specs.Logs.{LogsBy, hostile_log, no_state}
 use Rattle.uring_partner.proofs.Turns.{Joins}
 

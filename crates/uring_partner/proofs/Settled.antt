@@ -2,7 +2,7 @@
 use Rattle.std.specs.Prelude.{◌≡◌, ℕ, Bool, List, [], ◌∷◌, ◌++◌, length, drop, ℤ, Option, Some}
 use Rattle.std.specs.List.{remove}
 use Rattle.std.proofs.Common.{ap, ◌∙◌}
-use Rattle.uring_entry.specs.Loans.{with_part}
+use Rattle.uring_base.specs.Loans.{with_part}
 use Rattle.uring_model.specs.declared.pending.Pending.{Pending}
 use Rattle.uring_model.specs.Machine.{Files}
 use Rattle.uring_model.specs.Jobs.{linked}
@@ -14,33 +14,33 @@ use Rattle.uring_partner.proofs.Marks.{Removes, answer_here}
 
 pub code_settles : (a : PartnerState) (c : Cursor) (k : ℕ) (x : Pending) (rest : List Pending) (after : Pending) (r : ℤ) (o : Option ℕ) (b l : Bool) (f : Files) (told pend : List Pending) (end : Option Bool) (cs : List ℕ)
     → named (choice a.choices) (cursors a) ≡ Some c → length c.front ≡ k → Removes a.pending c k → x ≡ c.item → rest ≡ remove a.pending k
-    → r ≡ (answered_among a.files rest x).result → o ≡ (answered_among a.files rest x).marks → b ≡ cuts x.cut (job_of x.taken) (answered_among a.files rest x).result → f ≡ (answered_among a.files rest x).files
-    → after ≡ settled_item x (answered_among a.files rest x).buf
+    → r ≡ (answered_among a.world rest x).result → o ≡ (answered_among a.world rest x).marks → b ≡ cuts x.cut (job_of x.taken) (answered_among a.world rest x).result → f ≡ (answered_among a.world rest x).world
+    → after ≡ settled_item x (answered_among a.world rest x).buf
     → l ≡ linked (job_of after.taken).link
     → ((front back : List Pending) → rest ≡ front ++ back → length front ≡ k → told ≡ front ++ pass l b back)
     → ((front back : List Pending) → rest ≡ front ++ back → length front ≡ k → end ≡ pass_end l b back a.tail)
     → pend ≡ mark_first_if o told → cs ≡ drop 1 a.choices
-    → (s : Settles a (record { user_data = after.taken.entry.user_data; result = r; flags = 0; big = 0 ∷ 0 ∷ []; loan = after.taken.loan })) × (◌≡◌ {A = PartnerState} (record { files = f; pending = pend; tail = end; choices = cs }) (after_settle a s.cursor (answer_to a.files s.cursor)))
+    → (s : Settles a (record { user_data = after.taken.entry.user_data; result = r; flags = 0; big = 0 ∷ 0 ∷ []; loan = after.taken.loan })) × (◌≡◌ {A = PartnerState} (record { world = f; pending = pend; tail = end; choices = cs }) (after_settle a s.cursor (answer_to a.world s.cursor)))
 code_settles a c k x rest after r o b l f told pend end cs chosen front m item out res marks cut files same link passed ended marked used =
     let others : rest ≡ c.front ++ c.back = out ∙ m.rest in
-    let y : answered_among a.files rest x ≡ answer_to a.files c = (λ i. answered_among a.files (others i) (item i)) ∙ answer_here a.files c in
-    let result : r ≡ (answer_to a.files c).result = res ∙ ap (λ z. z.result) y in
-    let bytes : after.taken.loan ≡ with_part c.item.taken.loan (answer_to a.files c).buf = ap (λ t. t.taken.loan) same ∙ (λ i. with_part (item i).taken.loan (y i).buf) in
+    let y : answered_among a.world rest x ≡ answer_to a.world c = (λ i. answered_among a.world (others i) (item i)) ∙ answer_here a.world c in
+    let result : r ≡ (answer_to a.world c).result = res ∙ ap (λ z. z.result) y in
+    let bytes : after.taken.loan ≡ with_part c.item.taken.loan (answer_to a.world c).buf = ap (λ t. t.taken.loan) same ∙ (λ i. with_part (item i).taken.loan (y i).buf) in
     let number : after.taken.entry.user_data ≡ c.item.taken.entry.user_data = ap (λ t. t.taken.entry.user_data) same ∙ ap (λ z. z.taken.entry.user_data) item in
     let links : l ≡ linked (job_of c.item.taken).link = link ∙ ap (λ t. linked (job_of t.taken).link) same ∙ ap (λ z. linked (job_of z.taken).link) item in
-    let cuts_is : b ≡ cuts c.item.cut (job_of c.item.taken) (answer_to a.files c).result = cut ∙ (λ i. cuts (item i).cut (job_of (item i).taken) (y i).result) in
+    let cuts_is : b ≡ cuts c.item.cut (job_of c.item.taken) (answer_to a.world c).result = cut ∙ (λ i. cuts (item i).cut (job_of (item i).taken) (y i).result) in
     let seen : told ≡ c.front ++ pass l b c.back = passed c.front c.back others front in
     let last : end ≡ pass_end l b c.back a.tail = ended c.front c.back others front in
-    let mark : o ≡ (answer_to a.files c).marks = marks ∙ ap (λ z. z.marks) y in
-    let all : pend ≡ mark_first_if (answer_to a.files c).marks (c.front ++ pass (linked (job_of c.item.taken).link) (cuts c.item.cut (job_of c.item.taken) (answer_to a.files c).result) c.back) =
+    let mark : o ≡ (answer_to a.world c).marks = marks ∙ ap (λ z. z.marks) y in
+    let all : pend ≡ mark_first_if (answer_to a.world c).marks (c.front ++ pass (linked (job_of c.item.taken).link) (cuts c.item.cut (job_of c.item.taken) (answer_to a.world c).result) c.back) =
     marked ∙ ap (mark_first_if o) seen ∙ (λ i. mark_first_if (mark i) (c.front ++ pass (links i) (cuts_is i) c.back)) in
-    let ends : end ≡ pass_end (linked (job_of c.item.taken).link) (cuts c.item.cut (job_of c.item.taken) (answer_to a.files c).result) c.back a.tail =
+    let ends : end ≡ pass_end (linked (job_of c.item.taken).link) (cuts c.item.cut (job_of c.item.taken) (answer_to a.world c).result) c.back a.tail =
     last ∙ (λ i. pass_end (links i) (cuts_is i) c.back a.tail) in
-    let made : f ≡ (answer_to a.files c).files = files ∙ ap (λ z. z.files) y in (
+    let made : f ≡ (answer_to a.world c).world = files ∙ ap (λ z. z.world) y in (
       record {
         cursor = c;
         chosen = chosen;
         completion = λ i. record { user_data = number i; result = result i; flags = 0; big = 0 ∷ 0 ∷ []; loan = bytes i };
       },
-      λ i. record { files = made i; pending = all i; tail = ends i; choices = used i },
+      λ i. record { world = made i; pending = all i; tail = ends i; choices = used i },
     )

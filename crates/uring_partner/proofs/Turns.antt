@@ -3,8 +3,8 @@ use Rattle.std.specs.Prelude.{◌≡◌, ℕ, ◌+◌, ◌-◌, ◌%◌, ◌<◌
 use Rattle.std.proofs.lemmas.Bool.Decides.{nat_tests}
 use Rattle.std.proofs.lemmas.List.{map-append, length-map}
 use Rattle.std.proofs.Common.{ap, sym, subst, ◌∙◌, append_assoc, append-nil, arith, length-append}
-use Rattle.uring_entry.specs.declared.events.Taken.{Taken}
-use Rattle.uring_entry.specs.declared.events.Completion.{Completion}
+use Rattle.uring_base.specs.declared.events.Taken.{Taken}
+use Rattle.uring_base.specs.declared.events.Completion.{Completion}
 use Rattle.uring_model.specs.declared.pending.Pending.{Pending}
 use Rattle.uring_model.specs.Chosen.{choice, stops}
 use Rattle.uring_model.specs.Moves.{Move, Turned, Took, Posted, took, posted, logged, log_of}
@@ -12,9 +12,9 @@ use Rattle.uring_model.specs.Partner.{PartnerState, file_machine, cursors, named
 use Rattle.uring_model.specs.Turn.{Outturn, posting, stays, settled_by, settle_then, settle_turn, take_all, turn}
 use Rattle.uring_model.proofs.Joins.{took-append, posted-append, took_turn, posted_turn, log-append}
 use Rattle.uring_model.proofs.Whole.{whole_turn}
-use Rattle.uring_ring.specs.Lists.{Lists, Moves, WhereTold, HasRoom, room_of}
+use Rattle.ring_traits.specs.Lists.{Lists, Moves, WhereTold, HasRoom, room_of}
 use Rattle.uring_partner.specs.declared.memory.MemoryPartner.{MemoryPartner}
-use Rattle.partner_calls.specs.Calls.{Enters, IsTurn, IsWholeTurn}
+use Rattle.partner_traits.specs.Calls.{Enters, IsTurn, IsWholeTurn}
 use Rattle.uring_model.specs.Progress.{turns}
 use Rattle.uring_partner.specs.Parts.{GoesBy}
 use Rattle.uring_partner.specs.Told.{state_of, told_state, told_log}

@@ -1,9 +1,9 @@
 -- What the parts of a turn do to a log, and what a hostile partner tells.
 use Rattle.std.specs.Prelude.{◌≡◌, List, ◌++◌, drop, Option, Some, None}
-use Rattle.uring_entry.specs.declared.buffer.Loan.{Loan}
-use Rattle.uring_entry.specs.declared.events.Taken.{Taken}
-use Rattle.uring_entry.specs.declared.events.Completion.{Completion}
-use Rattle.uring_entry.specs.declared.events.LogEvent.{LogEvent}
+use Rattle.uring_base.specs.declared.buffer.Loan.{Loan}
+use Rattle.uring_base.specs.declared.events.Taken.{Taken}
+use Rattle.uring_base.specs.declared.events.Completion.{Completion}
+use Rattle.uring_base.specs.declared.events.LogEvent.{LogEvent}
 use Rattle.uring_model.specs.Moves.{Move, took, posted, log_of}
 use Rattle.uring_model.specs.Partner.{PartnerState}
 use Rattle.uring_partner.specs.declared.hostile.HostilePartner.{HostilePartner}

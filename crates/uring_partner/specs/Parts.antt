@@ -1,10 +1,10 @@
 -- What the parts of a turn do.
 use Rattle.std.specs.Prelude.{◌≡◌, ℕ, ◌+◌, ◌-◌, ◌^◌, min, List, ◌++◌, Result, Err}
-use Rattle.uring_entry.specs.declared.events.Taken.{Taken}
-use Rattle.uring_entry.specs.declared.events.Completion.{Completion}
+use Rattle.uring_base.specs.declared.events.Taken.{Taken}
+use Rattle.uring_base.specs.declared.events.Completion.{Completion}
 use Rattle.uring_model.specs.Moves.{Move, took, posted, log_of}
-use Rattle.partner_calls.specs.declared.call.PartnerError.{PartnerError}
-use Rattle.partner_calls.specs.declared.call.PartnerError.TheVariants.{Fault}
+use Rattle.partner_traits.specs.declared.call.PartnerError.{PartnerError}
+use Rattle.partner_traits.specs.declared.call.PartnerError.TheVariants.{Fault}
 use Rattle.uring_partner.specs.Told.{told_state, told_log, told_faults}
 use Rattle.uring_partner.specs.declared.memory.MemoryPartner.{MemoryPartner}
 

@@ -2,14 +2,14 @@
 use Rattle.std.specs.Prelude.{ℕ, List, Option, Some}
 use Rattle.std.specs.FinMap.{insert}
 use Rattle.uring_model.specs.Machine.{Files}
-use Rattle.uring_model.specs.Viewed.{AnyFiles, same_files}
-use Rattle.partner_calls.specs.Calls.{Puts}
-use Rattle.uring_entry.specs.declared.events.LogEvent.{LogEvent}
+use Rattle.uring_model.specs.Refines.{AnyFiles, same_files}
+use Rattle.partner_traits.specs.Calls.{Puts}
+use Rattle.uring_base.specs.declared.events.LogEvent.{LogEvent}
 use Rattle.uring_model.specs.Partner.{PartnerState}
 use Rattle.uring_partner.specs.declared.memory.MemoryPartner.{MemoryPartner}
 
 abbrev pub state_of : MemoryPartner → PartnerState
-state_of p = record { files = p.files; pending = p.pending.items.items; tail = p.tail; choices = p.choices.items }
+state_of p = record { world = p.files; pending = p.pending.items.items; tail = p.tail; choices = p.choices.items }
 
 abbrev pub told_state : MemoryPartner → Option PartnerState
 told_state p = Some (state_of p)

@@ -9,7 +9,7 @@ ghost use Rattle.uring_partner.specs.Bound.{bound_in};
 ghost use Rattle.uring_partner.specs.Marks.{IsFirstUnmarked, IsToldCut};
 
 use std::collections::VecDeque;
-use uring_entry::Taken;
+use uring_base::Taken;
 use uring_model::{Pending, has_link, has_soft_link};
 
 /// Whether an entry cuts the one that hangs on it, by whether it is cut itself and whether its

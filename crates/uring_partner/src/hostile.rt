@@ -3,11 +3,11 @@
 ghost use Rattle.std.specs.Prelude.{◌≡◌, [], IfOk};
 
 use crate::logging::{event_at, push_known};
-use partner_calls::{Counts, EnterCall, Partner, PartnerError, Seedable};
+use partner_traits::{Counts, EnterCall, Partner, PartnerError, Seedable};
 use std::alloc::{AllocError, Global};
-use uring_entry::cqueue::more;
-use uring_entry::{Buf, Completion, Event, Loan, LogEvent};
-use uring_ring::PartnerSide;
+use uring_base::cqueue::more;
+use uring_base::{Buf, Completion, Event, Loan, LogEvent};
+use ring_traits::PartnerSide;
 
 #[cfg(test)]
 mod tests;
@@ -49,12 +49,12 @@ pub struct HostilePartner {
 
 impl HostilePartner {
     ghost use Rattle.std.specs.Prelude.{◌≡◌, ◌+◌, ◌<◌, ◌≤◌, [], ◌∷◌, ℕ, List, length, map, min, Some, IfOk, IfSome, OnOk, OnErr, is_ok, vec_len};
-    ghost use Rattle.uring_entry.specs.declared.events.Taken.{Taken};
-    ghost use Rattle.uring_entry.specs.declared.events.Completion.{Completion};
+    ghost use Rattle.uring_base.specs.declared.events.Taken.{Taken};
+    ghost use Rattle.uring_base.specs.declared.events.Completion.{Completion};
     ghost use Rattle.uring_model.specs.Moves.{Move, Turned, Took, Posted, took};
     ghost use Rattle.uring_model.specs.Partner.{file_machine};
     ghost use Rattle.uring_partner.specs.Logs.{LogsBy, hostile_log, loans_held, no_state, script_left};
-    ghost use Rattle.partner_calls.specs.Calls.{Enters, IsCall};
+    ghost use Rattle.partner_traits.specs.Calls.{Enters, IsCall};
 
     /// A partner with this script, which holds nothing and has no events.
     pub fn new(alloc: Global, script: Vec<Scripted>) -> HostilePartner
@@ -253,7 +253,7 @@ impl Partner for HostilePartner {
     ghost use Rattle.std.specs.Prelude.{[], length, refl};
     ghost use Rattle.uring_model.specs.Machine.{Files};
     ghost use Rattle.uring_model.specs.Partner.{file_machine};
-    ghost use Rattle.uring_model.specs.Viewed.{AnyFiles, same_files, files_refine};
+    ghost use Rattle.uring_model.specs.Refines.{AnyFiles, same_files, files_refine};
     ghost use Rattle.uring_partner.specs.Logs.{hostile_log, no_state};
     ghost use Rattle.uring_partner.specs.Told.{put_in, puts_in};
 

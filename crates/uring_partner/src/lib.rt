@@ -12,4 +12,4 @@ mod settle;
 
 pub use hostile::{HostilePartner, LoanPlan, Scripted};
 pub use memory::MemoryPartner;
-pub use partner_calls::{Counts, EnterCall, Partner, PartnerError, Seedable};
+pub use partner_traits::{Counts, EnterCall, Partner, PartnerError, Seedable};

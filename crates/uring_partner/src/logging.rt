@@ -4,7 +4,7 @@ ghost use Rattle.std.specs.Prelude.{◌≡◌, ◌<◌, ◌++◌, ◌∷◌, [],
 ghost use Rattle.std.specs.Option.{option_map};
 ghost use Rattle.uring_model.specs.Moves.{event_of};
 
-use uring_entry::{Event, LogEvent};
+use uring_base::{Event, LogEvent};
 
 /// Adds an item where memory for it is at hand.
 pub fn push_known<T: Drop>(items: &mut Vec<T>, item: T)

@@ -7,12 +7,12 @@ use crate::pending_list::PendingList;
 use crate::plan::pass_enter;
 use crate::scan::chosen_place;
 use crate::settle::settle;
-use partner_calls::{Counts, EnterCall, Partner, PartnerError, Seedable};
+use partner_traits::{Counts, EnterCall, Partner, PartnerError, Seedable};
 use std::alloc::{AllocError, Global};
 use std::collections::VecDeque;
-use uring_entry::{Buf, Completion, Event, Loan, LogEvent};
+use uring_base::{Buf, Completion, Event, Loan, LogEvent};
 use uring_model::{Files, Pending, has_link};
-use uring_ring::PartnerSide;
+use ring_traits::PartnerSide;
 
 #[cfg(test)]
 mod tests;
@@ -39,13 +39,13 @@ impl MemoryPartner {
     ghost use Rattle.std.specs.Prelude.{◌≡◌, ◌+◌, ◌<◌, ◌≤◌, ◌↔◌, ◌++◌, ◌∷◌, [], ℕ, List, length, map, min, Option, Some, option_copied, option_map, IfErr, IfOk, IfSome, IsTrue, OnOk, OnErr, is_ok, vec_len, vec_capacity};
     ghost use Rattle.std.specs.VecDeque.{deque_len, deque_capacity};
     ghost use Rattle.std.specs.FinMap as finite;
-    ghost use Rattle.uring_entry.specs.declared.events.Taken.{Taken};
+    ghost use Rattle.uring_base.specs.declared.events.Taken.{Taken};
     ghost use Rattle.uring_model.specs.Chosen.{choice};
     ghost use Rattle.uring_model.specs.Moves.{Move, Turned, Took, Posted, took, logged};
     ghost use Rattle.uring_model.specs.Partner.{IsIdle, Settles, file_machine, after_settle, after_take, answer_to, idle};
     ghost use Rattle.uring_model.specs.Turn.{settle_turn, take_all};
-    ghost use Rattle.uring_ring.specs.Lists.{room_of};
-    ghost use Rattle.partner_calls.specs.Calls.{Enters, IsCall, IsWholeTurn};
+    ghost use Rattle.ring_traits.specs.Lists.{room_of};
+    ghost use Rattle.partner_traits.specs.Calls.{Enters, IsCall, IsWholeTurn};
     ghost use Rattle.uring_partner.specs.Parts.{GoesBy};
     ghost use Rattle.uring_partner.specs.Told.{state_of, told_state, told_log, told_plan, told_faults};
 
@@ -83,7 +83,7 @@ impl MemoryPartner {
 
     /// How many bytes the file of this number has.
     pub fn file_len(&self, number: u32) -> Option<usize>
-        ensures { result ≡ option_map length (finite.get (state_of self.now).files number) }
+        ensures { result ≡ option_map length (finite.get (state_of self.now).world number) }
     {
         match self.files.get(number) {
             Some(file) => Some(file.len()),
@@ -93,7 +93,7 @@ impl MemoryPartner {
 
     /// The bytes of the file of this number.
     pub fn file_bytes(&self, number: u32) -> Option<&[u8]>
-        ensures { option_copied result ≡ finite.get (state_of self.now).files number }
+        ensures { option_copied result ≡ finite.get (state_of self.now).world number }
     {
         match self.files.get(number) {
             Some(file) => Some(file.as_slice()),
@@ -299,12 +299,12 @@ impl Counts for MemoryPartner {
 
 impl Partner for MemoryPartner {
     ghost use Rattle.std.specs.Prelude.{◌≡◌, List, length, refl, Contains, IfErr, IfOk, IfSome, IsTrue, OnOk, is_ok};
-    ghost use Rattle.uring_entry.specs.Causes.{HasCause};
+    ghost use Rattle.uring_base.specs.Causes.{HasCause};
     ghost use Rattle.uring_model.specs.Moves.{Move, took};
-    ghost use Rattle.partner_calls.specs.Calls.{Enters, IsCall, IsWholeTurn, is_fault, later_plan};
+    ghost use Rattle.partner_traits.specs.Calls.{Enters, IsCall, IsWholeTurn, is_fault, later_plan};
     ghost use Rattle.uring_model.specs.Machine.{Files};
     ghost use Rattle.uring_model.specs.Partner.{file_machine};
-    ghost use Rattle.uring_model.specs.Viewed.{AnyFiles, same_files, files_refine};
+    ghost use Rattle.uring_model.specs.Refines.{AnyFiles, same_files, files_refine};
     ghost use Rattle.uring_partner.specs.Parts.{IsPlannedFailure};
     ghost use Rattle.uring_partner.specs.Told.{told_log, told_state, told_plan, told_faults, put_in, puts_in};
 

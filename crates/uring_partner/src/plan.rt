@@ -1,7 +1,7 @@
 //! Which of the next enters fail by plan.
 
 ghost use Rattle.std.specs.Prelude.{◌≡◌, ◌↔◌, Contains, IsTrue};
-ghost use Rattle.partner_calls.specs.Calls.{later_plan};
+ghost use Rattle.partner_traits.specs.Calls.{later_plan};
 
 /// Passes one enter, and says whether it fails.
 pub fn pass_enter(plan: &mut Vec<u64>) -> bool

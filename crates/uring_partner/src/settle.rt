@@ -1,7 +1,7 @@
 //! What the entry that settles is answered.
 
 ghost use Rattle.std.specs.Prelude.{◌≡◌, if◌then◌else◌, IfOk, OnOk, OnErr, ℕ, length};
-ghost use Rattle.uring_entry.specs.Loans.{part_of, with_part};
+ghost use Rattle.uring_base.specs.Loans.{part_of, with_part};
 ghost use Rattle.uring_model.specs.Asked.{op_in, answer_in, FindsAs, PartFits};
 ghost use Rattle.uring_model.specs.Partner.{job_of, has_unmarked};
 ghost use Rattle.uring_model.specs.Replay.{cuts, due, below};
@@ -10,7 +10,7 @@ ghost use Rattle.uring_partner.specs.Settling.{answered_among, bare, settled_ite
 use crate::chain::{can_mark, cuts_next};
 use std::alloc::{AllocError, Global};
 use std::collections::VecDeque;
-use uring_entry::Loan;
+use uring_base::Loan;
 use uring_model::{Answered, Asked, Files, Pending, perform, what_is_asked};
 
 /// What a settling answers, whether it cuts the next entry of its chain, and a copy of the loan
@@ -66,7 +66,7 @@ fn perform_on_loan(
     requires { PartFits asked (part_of loan.old) }
     ensures result { IfOk result (λ answered. answered.result ≡ (answer_in files.old can_cancel asked (part_of loan.old)).result) }
     ensures marks { IfOk result (λ answered. answered.marks ≡ (answer_in files.old can_cancel asked (part_of loan.old)).marks) }
-    ensures files { OnOk result (files.new ≡ (answer_in files.old can_cancel asked (part_of loan.old)).files) }
+    ensures files { OnOk result (files.new ≡ (answer_in files.old can_cancel asked (part_of loan.old)).world) }
     ensures loan { OnOk result (loan.new ≡ with_part loan.old (answer_in files.old can_cancel asked (part_of loan.old)).buf) }
     ensures err { OnErr result ((files.new ≡ files.old) × (loan.new ≡ loan.old)) }
 {
@@ -97,7 +97,7 @@ fn answer(
     requires asks { op_in asked ≡ (job_of item.old.taken).op }
     ensures result { IfOk result (λ answered. answered.result ≡ (answered_among files.old rest.now.items item.old).result) }
     ensures marks { IfOk result (λ answered. answered.marks ≡ (answered_among files.old rest.now.items item.old).marks) }
-    ensures files { OnOk result (files.new ≡ (answered_among files.old rest.now.items item.old).files) }
+    ensures files { OnOk result (files.new ≡ (answered_among files.old rest.now.items item.old).world) }
     ensures item { OnOk result (item.new ≡ settled_item item.old (answered_among files.old rest.now.items item.old).buf) }
     ensures err { OnErr result ((files.new ≡ files.old) × (item.new ≡ item.old)) }
 {
@@ -147,7 +147,7 @@ pub fn settle(
     ensures marks { IfOk result (λ settled. settled.answered.marks ≡ (answered_among files.old rest.now.items item.old).marks) }
     ensures cut { IfOk result (λ settled. settled.cut ≡ cuts item.old.cut (job_of item.old.taken) (answered_among files.old rest.now.items item.old).result) }
     ensures copy { IfOk result (λ settled. settled.copy ≡ item.new.taken.loan) }
-    ensures files { OnOk result (files.new ≡ (answered_among files.old rest.now.items item.old).files) }
+    ensures files { OnOk result (files.new ≡ (answered_among files.old rest.now.items item.old).world) }
     ensures item { OnOk result (item.new ≡ settled_item item.old (answered_among files.old rest.now.items item.old).buf) }
     ensures err { OnErr result ((files.new ≡ files.old) × (item.new ≡ item.old)) }
 {

@@ -1,7 +1,7 @@
 -- The laws of an iteration over a completion queue.
 use Rattle.std.proofs.Common.{◌≡◌, ℕ, ℤ, ◌-◌, ◌<◌, zero, suc, List, [], ◌∷◌, ◌++◌, length, map, take, drop, None, refl, ap, sym, ◌∙◌, arith}
 use Rattle.std.specs.Iterator.{Yields}
-use Rattle.uring_entry.specs.declared.events.Completion.{Completion}
+use Rattle.uring_base.specs.declared.events.Completion.{Completion}
 use Rattle.uring_ring.specs.declared.completion_queue.CompletionQueue.{CompletionQueue}
 use Rattle.uring_ring.specs.declared.completion_queue.Received.{Received}
 use Rattle.ring_core.specs.Held.{Held}

@@ -1,7 +1,7 @@
 -- Completions written into a slice, one after another.
 use Rattle.std.proofs.Common.{◌≡◌, ℕ, ℤ, ◌+◌, ◌-◌, ◌<◌, ◌≤◌, zero, suc, List, [], ◌∷◌, ◌++◌, length, map, take, drop, Option, Some, None, refl, ap, sym, ◌∙◌, arith}
 use Rattle.std.specs.Prelude.{slice_set, MatchOption}
-use Rattle.uring_entry.specs.declared.events.Completion.{Completion}
+use Rattle.uring_base.specs.declared.events.Completion.{Completion}
 use Rattle.uring_ring.specs.declared.completion_queue.Received.{Received}
 use Rattle.ring_core.specs.Held.{Held}
 use Rattle.ring_core.specs.Slots.{taken_out}

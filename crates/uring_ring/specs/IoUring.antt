@@ -1,7 +1,7 @@
 -- A pair of rings for one thread, by what it holds.
 use Rattle.std.specs.Prelude.{◌≡◌, ℕ, ◌+◌, List, [], length, min}
-use Rattle.uring_entry.specs.declared.events.Taken.{Taken}
-use Rattle.uring_entry.specs.declared.events.Completion.{Completion}
+use Rattle.uring_base.specs.declared.events.Taken.{Taken}
+use Rattle.uring_base.specs.declared.events.Completion.{Completion}
 use Rattle.std.specs.Borrow.{Lends, LendsBoth, MutBor, Fml, RattleType}
 use Rattle.uring_ring.specs.declared.io_uring.IoUring.{IoUring}
 use Rattle.ring_setup.specs.Setup.{told_entries, told_completions}
@@ -15,7 +15,7 @@ use Rattle.uring_ring.specs.contracts.submission_ring.SubmissionRing as submissi
 use Rattle.uring_ring.specs.contracts.completion_ring.CompletionRing as completion_ring
 use Rattle.ring_core.specs.Held.{Held}
 use Rattle.ring_core.specs.Slots.{held_of}
-use Rattle.uring_ring.specs.Lists.{Lists, lists_between, Moves, Uses, Advances}
+use Rattle.ring_traits.specs.Lists.{Lists, lists_between, Moves, Uses, Advances}
 
 abbrev pub entries_in : {S C : Type 0} → IoUring S C → Held Taken
 entries_in ring = held_of ring.submissions.slots

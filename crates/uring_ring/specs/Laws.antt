@@ -2,14 +2,14 @@
 use Rattle.std.specs.Prelude.{Option, Some}
 use Rattle.std.proofs.Common.{◌≡◌, ℕ, ◌+◌, ◌%◌, ◌^◌, List, [], ◌∷◌, ◌++◌, length, map, refl, sym, ap, ◌∙◌, arith, append_assoc, append-nil, length-append}
 use Rattle.std.proofs.Math.Nat.{add-mod}
-use Rattle.uring_entry.specs.declared.events.Taken.{Taken}
-use Rattle.uring_entry.specs.declared.events.Completion.{Completion}
+use Rattle.uring_base.specs.declared.events.Taken.{Taken}
+use Rattle.uring_base.specs.declared.events.Completion.{Completion}
 use Rattle.uring_ring.specs.declared.submission_ring.SubmissionRing.{SubmissionRing}
 use Rattle.uring_ring.specs.declared.completion_ring.CompletionRing.{CompletionRing}
 use Rattle.uring_ring.specs.declared.plain_side.PlainSide.{PlainSide}
 use Rattle.uring_ring.specs.PlainSide.{SideMoves, SideMarks, side_lists, side_entries, side_completions}
 use Rattle.uring_ring.specs.declared.io_uring.IoUring.{IoUring}
-use Rattle.uring_ring.specs.Lists.{Lists, lists_between, HasRoom, Moves, Uses, Advances}
+use Rattle.ring_traits.specs.Lists.{Lists, lists_between, HasRoom, Moves, Uses, Advances}
 use Rattle.ring_core.specs.Slots.{held_of, held-fits}
 use Rattle.uring_ring.specs.IoUring.{lists_of, entries_in, completions_in, RingMoves, RingMarks, RingUses}
 

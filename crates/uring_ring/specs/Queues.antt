@@ -1,8 +1,8 @@
 -- Queue values, by the rings that they lend.
 use Rattle.std.specs.Prelude.{◌≡◌, ℕ, ℤ, ◌-◌, ◌%◌, ◌<◌, List, [], ◌∷◌, Option, MatchOption, map, take, bit_or}
-use Rattle.uring_entry.specs.declared.buffer.Loan.{Loan}
-use Rattle.uring_entry.specs.declared.events.Taken.{Taken}
-use Rattle.uring_entry.specs.declared.events.Completion.{Completion}
+use Rattle.uring_base.specs.declared.buffer.Loan.{Loan}
+use Rattle.uring_base.specs.declared.events.Taken.{Taken}
+use Rattle.uring_base.specs.declared.events.Completion.{Completion}
 use Rattle.uring_ring.specs.declared.submission_queue.SubmissionQueue.{SubmissionQueue}
 use Rattle.uring_ring.specs.declared.submission_queue.Refused.{Refused}
 use Rattle.uring_ring.specs.declared.submission_ring.SubmissionWords.{SubmissionWords}

@@ -1,7 +1,7 @@
 -- Parameters that tell how much fits in a ring.
 use Rattle.std.specs.Prelude.{List}
-use Rattle.uring_entry.specs.declared.events.Taken.{Taken}
-use Rattle.uring_entry.specs.declared.events.Completion.{Completion}
+use Rattle.uring_base.specs.declared.events.Taken.{Taken}
+use Rattle.uring_base.specs.declared.events.Completion.{Completion}
 use Rattle.uring_ring.specs.declared.io_uring.IoUring.{IoUring}
 use Rattle.uring_ring.specs.IoUring.{TellsSizes, RingMoves, RingUses}
 

@@ -1,9 +1,9 @@
 -- What rings of entries of either size take and keep.
 use Rattle.std.specs.Prelude.{ℕ, ℤ, List, Option, None}
-use Rattle.uring_entry.specs.declared.squeue.Entry.{Entry}
-use Rattle.uring_entry.specs.declared.buffer.Loan.{Loan}
-use Rattle.uring_entry.specs.declared.events.Taken.{Taken}
-use Rattle.uring_entry.specs.declared.events.Completion.{Completion}
+use Rattle.uring_base.specs.declared.squeue.Entry.{Entry}
+use Rattle.uring_base.specs.declared.buffer.Loan.{Loan}
+use Rattle.uring_base.specs.declared.events.Taken.{Taken}
+use Rattle.uring_base.specs.declared.events.Completion.{Completion}
 
 -- an entry as the partner takes it, by the small entry and the bytes behind it that it holds
 abbrev pub taken_as : {S : Type 0} → (S → Entry) → (S → List ℕ) → S → Option Loan → Taken

@@ -1,7 +1,7 @@
 //! What makes a ring.
 
 ghost use Rattle.std.specs.Prelude.{◌≡◌, ◌↔◌, true, false, bit_or, IfOk, IfErr};
-ghost use Rattle.uring_entry.specs.Sizes.{rounded_up};
+ghost use Rattle.uring_base.specs.Sizes.{rounded_up};
 ghost use Rattle.ring_setup.specs.Setup.{default_settings, is_buildable, parameters_for, asked_entries, asked_completions, with_bit, with_cqsize, with_start, with_features, with_sqpoll, with_sqpoll_cpu, with_attach, with_dontfork};
 ghost use Rattle.uring_ring.specs.IoUring.{IsOpened, TellsSizes, parameters_of};
 

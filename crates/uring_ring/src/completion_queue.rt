@@ -2,14 +2,14 @@
 
 ghost use Rattle.std.specs.Prelude.{◌≡◌, ◌↔◌, ◌-◌, ◌<◌, ◌≤◌, ◌++◌, IsTrue, length, map, min, drop, Some};
 ghost use Rattle.std.specs.Iterator.{at_most};
-ghost use Rattle.uring_entry.specs.FlagBits.{has_bit};
+ghost use Rattle.uring_base.specs.FlagBits.{has_bit};
 ghost use Rattle.ring_core.specs.Slots.{held_of, with_head, with_tail_seen, taken_out};
 ghost use Rattle.uring_ring.specs.Queues.{completions_at, completion_words_at, completions_of_status, received_as, first_received, QueueSteps, with_flag, without_flag};
 
 use crate::completion_ring::CompletionRing;
 use ring_core::{End, sync};
 use std::marker::PhantomData;
-use uring_entry::{Completion, Loan};
+use uring_base::{Completion, Loan};
 use uring_large::cqueue::{Entry, EntryMarker};
 
 /// A completion entry and the loan that came back with it.

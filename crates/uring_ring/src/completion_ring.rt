@@ -6,7 +6,7 @@ ghost use Rattle.uring_ring.specs.Sizes.{kept_as};
 
 use ring_core::{End, Slots};
 use std::alloc::{AllocError, Global};
-use uring_entry::Completion;
+use uring_base::Completion;
 use uring_large::cqueue::EntryMarker;
 
 /// The words beside the completions. The user writes the flags, and the partner the counter.

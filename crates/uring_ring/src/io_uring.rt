@@ -12,8 +12,8 @@ use ring_core::{End, SetupError};
 use ring_setup::Parameters;
 use std::alloc::{AllocError, Global};
 use std::marker::PhantomData;
-use uring_entry::squeue::Entry;
-use uring_entry::{Completion, Loan, Taken};
+use uring_base::squeue::Entry;
+use uring_base::{Completion, Loan, Taken};
 use uring_large::cqueue;
 
 /// A submission ring of entries `S` with their loans and a completion ring of entries `C`, for one
@@ -28,7 +28,7 @@ pub struct IoUring<S = Entry, C = cqueue::Entry> {
 
 impl IoUring<Entry, cqueue::Entry> {
     ghost use Rattle.std.specs.Prelude.{◌*◌, ◌<◌, ◌↔◌, IfOk, IfErr};
-    ghost use Rattle.uring_entry.specs.Sizes.{rounded_up};
+    ghost use Rattle.uring_base.specs.Sizes.{rounded_up};
     ghost use Rattle.ring_setup.specs.Setup.{default_settings, parameters_for, IsInvalidCount};
     ghost use Rattle.uring_ring.specs.IoUring.{IsOpened, TellsSizes, parameters_of};
 
@@ -166,7 +166,7 @@ impl<S, C: cqueue::EntryMarker> PartnerSide for IoUring<S, C> {
     ghost use Rattle.std.specs.Prelude.{◌+◌, ◌<◌, ◌↔◌, [], ◌∷◌, IsOk, IsSome, OnOk, OnErr, IfErr, ◌⊎◌};
     ghost use Rattle.std.proofs.Common.{ap};
     ghost use Rattle.std.specs.Option.{option_to_list};
-    ghost use Rattle.uring_ring.specs.Lists.{room_of};
+    ghost use Rattle.ring_traits.specs.Lists.{room_of};
     ghost use Rattle.uring_ring.specs.Sizes.{kept_as};
     ghost use Rattle.uring_ring.specs.IoUring.{RingMoves, RingMarks, lists_of, entries_in, completions_in, words_of, one_more, counters_of};
     ghost use Rattle.uring_ring.specs.Laws.{RingMoves-none, RingMoves-then, marked_lists};

@@ -1,12 +1,12 @@
 //! Laws of the rings, each the contract of a function that does nothing.
 
 ghost use Rattle.std.specs.Prelude.{◌≡◌, Option};
-ghost use Rattle.uring_entry.specs.declared.squeue.Entry.{Entry};
+ghost use Rattle.uring_base.specs.declared.squeue.Entry.{Entry};
 ghost use Rattle.uring_large.specs.declared.squeue.Entry128.{Entry128};
-ghost use Rattle.uring_entry.specs.declared.buffer.Loan.{Loan};
-ghost use Rattle.uring_entry.specs.declared.events.Completion.{Completion};
-ghost use Rattle.uring_entry.specs.Completions.{without_big};
-ghost use Rattle.uring_ring.specs.Lists.{small};
+ghost use Rattle.uring_base.specs.declared.buffer.Loan.{Loan};
+ghost use Rattle.uring_base.specs.declared.events.Completion.{Completion};
+ghost use Rattle.uring_base.specs.Completions.{without_big};
+ghost use Rattle.ring_traits.specs.Lists.{small};
 ghost use Rattle.uring_ring.specs.Sizes.{taken_as, kept_as};
 ghost use Rattle.uring_ring.specs.SizeLaws.{MovesKeepSizes, UsesKeepSizes};
 ghost use Rattle.uring_ring.specs.QueueLaws.{ItemsAreAsManyAsLen, ItemsAreTheWaiting};

@@ -5,8 +5,8 @@ ghost use Rattle.std.specs.Prelude.{◌≡◌, ◌≤◌, length};
 use crate::completion_queue::CompletionQueue;
 use crate::sides::{PartnerSide, Rings};
 use crate::submission_queue::SubmissionQueue;
-use uring_entry::squeue::Entry;
-use uring_entry::{Completion, Taken};
+use uring_base::squeue::Entry;
+use uring_base::{Completion, Taken};
 use uring_large::cqueue;
 
 /// The partner's side of the rings that two queue values lend. What the queue values last saw
@@ -58,7 +58,7 @@ impl<S, C: cqueue::EntryMarker> PartnerSide for PlainSide<'_, '_, S, C> {
     ghost use Rattle.std.specs.Prelude.{◌+◌, ◌<◌, ◌↔◌, ◌⊎◌, [], ◌∷◌, IsOk, IsSome, OnOk, OnErr, IfErr};
     ghost use Rattle.std.proofs.Common.{ap};
     ghost use Rattle.std.specs.Option.{option_to_list};
-    ghost use Rattle.uring_ring.specs.Lists.{room_of};
+    ghost use Rattle.ring_traits.specs.Lists.{room_of};
     ghost use Rattle.uring_ring.specs.Sizes.{kept_as};
     ghost use Rattle.uring_ring.specs.IoUring.{one_more, counters_of};
     ghost use Rattle.uring_ring.specs.PlainSide.{SideMoves, SideMarks, side_lists, side_entries, side_completions, side_words};

@@ -1,7 +1,7 @@
 //! The user's end of the submission ring.
 
 ghost use Rattle.std.specs.Prelude.{◌≡◌, ◌↔◌, ◌-◌, ◌<◌, ◌≤◌, IsTrue, IsOk, OnOk, OnErr, IfErr, length, map, nat_eq, ⊤};
-ghost use Rattle.uring_entry.specs.FlagBits.{has_bit};
+ghost use Rattle.uring_base.specs.FlagBits.{has_bit};
 ghost use Rattle.ring_core.specs.Slots.{held_of, with_put, with_puts, with_tail, with_head_seen};
 ghost use Rattle.uring_ring.specs.Queues.{entries_at, submission_words_at, refused};
 ghost use Rattle.uring_ring.specs.Sizes.{taken_as, unlent};
@@ -10,7 +10,7 @@ use crate::submission_ring::SubmissionRing;
 use ring_core::{End, sync};
 use std::fmt;
 use std::marker::PhantomData;
-use uring_entry::{Loan, Taken};
+use uring_base::{Loan, Taken};
 use uring_large::squeue::{Entry, EntryMarker};
 
 /// The submission queue was full.

@@ -5,7 +5,7 @@ ghost use Rattle.ring_core.specs.Slots.{held_of};
 
 use ring_core::{End, Slots};
 use std::alloc::{AllocError, Global};
-use uring_entry::Taken;
+use uring_base::Taken;
 
 /// The words that the partner writes beside the entries.
 #[derive(Clone, Copy, PartialEq, Eq, Debug)]

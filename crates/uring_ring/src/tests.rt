@@ -6,8 +6,8 @@ mod sizes;
 
 use std::alloc::{AllocError, Global};
 use std::process::Abort;
-use uring_entry::squeue::Entry;
-use uring_entry::{Buf, Completion, Loan};
+use uring_base::squeue::Entry;
+use uring_base::{Buf, Completion, Loan};
 
 /// The entry and the loan of a job.
 pub(crate) fn job(number: u64) -> Entry {

@@ -1,7 +1,7 @@
 -- What reading a whole input answers.
 use Rattle.std.specs.Prelude.{◌≡◌, ℕ, ◌+◌, ◌≤◌, ◌<◌, List, [], length, Option, Some, None, IfSome, ⊤}
 use Rattle.std.specs.Io.KnownBytes.{Consumes}
-use Rattle.uring_entry.specs.Causes.{Rose}
+use Rattle.uring_base.specs.Causes.{Rose}
 use Rattle.uring_streams.specs.declared.read.InputFault.{InputFault}
 use Rattle.uring_streams.specs.declared.read.InputFault.TheVariants.{ReadFault, TooLong, NoMemory}
 

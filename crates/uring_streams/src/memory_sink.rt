@@ -3,13 +3,13 @@
 ghost use Rattle.std.specs.Prelude.{◌≡◌, ◌<◌, Some, min, length, IfOk, IsErr, true};
 ghost use Rattle.std.specs.Io.{WritesAtMost};
 ghost use Rattle.std.specs.Io.KnownBytes.{WriteAppends};
-ghost use Rattle.uring_entry.specs.Causes.{HasCause};
+ghost use Rattle.uring_base.specs.Causes.{HasCause};
 ghost use Rattle.uring_streams.specs.Memory.{SinkFailsNext, fresh_sink, sink_after};
 
 use crate::traits::{Failed, Sink};
 use std::alloc::Global;
 use std::marker::Model;
-use uring_entry::Nums;
+use uring_base::Nums;
 
 /// A sink that keeps what it takes in memory.
 #[derive(Drop)]

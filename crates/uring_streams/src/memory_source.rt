@@ -3,13 +3,13 @@
 ghost use Rattle.std.specs.Prelude.{◌≡◌, ◌↔◌, ◌<◌, Some, min, length, IfOk, IsErr, true};
 ghost use Rattle.std.specs.Io.{ReadsAtMost};
 ghost use Rattle.std.specs.Io.KnownBytes.{ReadConsumes};
-ghost use Rattle.uring_entry.specs.Causes.{HasCause};
+ghost use Rattle.uring_base.specs.Causes.{HasCause};
 ghost use Rattle.uring_streams.specs.Bytes.{CountsBytes};
 ghost use Rattle.uring_streams.specs.Memory.{SourceFailsNext, fresh_source, room_after, source_after};
 
 use crate::traits::{Failed, Source};
 use std::marker::Model;
-use uring_entry::{Buf, Nums};
+use uring_base::{Buf, Nums};
 
 /// A source over bytes in memory, which gives as many as there is room for.
 #[derive(Drop)]

@@ -6,7 +6,7 @@ ghost use Rattle.uring_streams.specs.declared.read.InputFault.TheVariants.{NoMem
 
 use crate::traits::{Failed, Source};
 use std::alloc::{AllocError, Global};
-use uring_entry::Buf;
+use uring_base::Buf;
 
 /// The longest input that `read_all` reads, in bytes.
 pub const INPUT_LIMIT: usize = 16_777_216;

@@ -8,7 +8,7 @@ use std::alloc::{AllocError, Global};
 use std::io;
 use std::io::Read;
 use std::test::Fail;
-use uring_entry::{Buf, Nums};
+use uring_base::{Buf, Nums};
 
 /// A list of at most one number.
 fn nums(alloc: Global, one: Option<u64>) -> Result<Nums, AllocError> {

@@ -3,7 +3,7 @@
 ghost use Rattle.std.specs.Prelude.{◌<◌, ℕ, List, Option, IfOk, length, true};
 ghost use Rattle.std.specs.Io.{ReadsAtMost, WritesAtMost};
 ghost use Rattle.std.specs.Io.KnownBytes.{ReadConsumes, WriteAppends};
-ghost use Rattle.uring_entry.specs.Causes.{HasCause};
+ghost use Rattle.uring_base.specs.Causes.{HasCause};
 ghost use Rattle.uring_streams.specs.Bytes.{CountsBytes};
 
 /// The source or the sink failed, and did nothing.

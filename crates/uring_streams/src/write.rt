@@ -2,7 +2,7 @@
 
 ghost use Rattle.std.specs.Prelude.{OnOk, OnErr, true};
 ghost use Rattle.std.specs.Io.KnownBytes.{Appends};
-ghost use Rattle.uring_entry.specs.Causes.{HasCause};
+ghost use Rattle.uring_base.specs.Causes.{HasCause};
 ghost use Rattle.uring_streams.specs.Bytes.{AppendsFront};
 
 use crate::traits::{Failed, Sink};

@@ -1,7 +1,7 @@
 -- Lists of rings that nothing moved.
 use Rattle.std.proofs.Common.{◌≡◌, [], Option, Some, None, ◌∙◌, append-nil, sym}
-use Rattle.uring_entry.specs.declared.events.Completion.{Completion}
-use Rattle.uring_ring.specs.Lists.{Lists, Moves, WhereTold}
+use Rattle.uring_base.specs.declared.events.Completion.{Completion}
+use Rattle.ring_traits.specs.Lists.{Lists, Moves, WhereTold}
 
 unmoved_lists : (kept : Completion → Completion) (l m : Lists) → Moves kept l [] [] m → m ≡ l
 unmoved_lists kept l m h =

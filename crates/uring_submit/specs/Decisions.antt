@@ -1,9 +1,9 @@
 -- What a submit call enters with, or that it makes no enter.
 use Rattle.std.specs.Prelude.{ℕ, negsuc, Bool, not, ◌&&◌, ◌||◌, nat_lt, bit_or, if◌then◌else◌, Option, Some, None}
-use Rattle.uring_entry.specs.FlagBits.{has_bit}
+use Rattle.uring_base.specs.FlagBits.{has_bit}
 use Rattle.ring_setup.specs.declared.parameters.Parameters.{Parameters}
 use Rattle.ring_setup.specs.Setup.{is_setup, is_feature}
-use Rattle.partner_calls.specs.declared.call.EnterCall.{EnterCall}
+use Rattle.partner_traits.specs.declared.call.EnterCall.{EnterCall}
 
 -- What the flags of a submission ring say: the partner's own thread sleeps, completions are held back, tasks wait.
 abbrev pub needs_wakeup : ℕ → Bool

@@ -1,7 +1,7 @@
 -- Why a submitter's call failed.
 use Rattle.std.specs.Prelude.{Bool, true, false}
-use Rattle.partner_calls.specs.declared.call.PartnerError.{PartnerError}
-use Rattle.partner_calls.specs.declared.call.PartnerError.TheVariants as partner
+use Rattle.partner_traits.specs.declared.call.PartnerError.{PartnerError}
+use Rattle.partner_traits.specs.declared.call.PartnerError.TheVariants as partner
 use Rattle.uring_submit.specs.declared.error.SubmitError.{SubmitError}
 use Rattle.uring_submit.specs.declared.error.SubmitError.TheVariants.{Exists, NotRegistered, Fault, NoMemory}
 

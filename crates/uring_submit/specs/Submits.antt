@@ -1,14 +1,14 @@
 -- What a submit call does with a partner and its side of the rings.
 use Rattle.std.specs.Prelude.{◌≡◌, ℕ, List, [], length, Option, Some, None, Result, Ok, is_ok, IfOk, OnOk}
-use Rattle.uring_entry.specs.declared.events.Taken.{Taken}
-use Rattle.uring_entry.specs.declared.events.Completion.{Completion}
-use Rattle.uring_entry.specs.declared.events.LogEvent.{LogEvent}
+use Rattle.uring_base.specs.declared.events.Taken.{Taken}
+use Rattle.uring_base.specs.declared.events.Completion.{Completion}
+use Rattle.uring_base.specs.declared.events.LogEvent.{LogEvent}
 use Rattle.uring_model.specs.Moves.{Move, took}
 use Rattle.uring_model.specs.Schedule.{Machine, State}
 use Rattle.ring_setup.specs.declared.parameters.Parameters.{Parameters}
-use Rattle.uring_ring.specs.Lists.{Lists}
-use Rattle.partner_calls.specs.declared.call.EnterCall.{EnterCall}
-use Rattle.partner_calls.specs.Calls.{Enters, IsCall, IsWholeTurn}
+use Rattle.ring_traits.specs.Lists.{Lists}
+use Rattle.partner_traits.specs.declared.call.EnterCall.{EnterCall}
+use Rattle.partner_traits.specs.Calls.{Enters, IsCall, IsWholeTurn}
 use Rattle.uring_submit.specs.declared.error.SubmitError.{SubmitError}
 use Rattle.uring_submit.specs.declared.submitter.Submitter.{Submitter}
 

@@ -1,6 +1,6 @@
 //! Why a submitter's call failed.
 
-use partner_calls::PartnerError;
+use partner_traits::PartnerError;
 
 /// Why a submitter's call failed.
 #[derive(Clone, Copy, PartialEq, Eq, Debug)]

@@ -1,17 +1,18 @@
 //! The calls that let a partner enter.
 
 ghost use Rattle.std.specs.Prelude.{◌≡◌, ◌^◌, ◌<◌, ℕ, true, IfErr, IfOk, IfSome, IsTrue, Contains, if◌then◌else◌, length};
-ghost use Rattle.uring_entry.specs.FlagBits.{has_bit};
-ghost use Rattle.uring_entry.specs.Causes.{HasCause};
-ghost use Rattle.partner_calls.specs.Calls.{later_plan};
+ghost use Rattle.uring_base.specs.FlagBits.{has_bit};
+ghost use Rattle.uring_base.specs.Causes.{HasCause};
+ghost use Rattle.partner_traits.specs.Calls.{later_plan};
 ghost use Rattle.uring_submit.specs.Decisions.{decision, enters, enter_flags, has_events, gets_events};
 ghost use Rattle.uring_submit.specs.Errors.{is_fault, is_of_partner};
 ghost use Rattle.uring_submit.specs.Submits.{params_of, Submits};
 
 use crate::error::SubmitError;
 use std::alloc::Global;
-use partner_calls::{EnterCall, Partner};
-use uring_ring::{Parameters, PartnerSide};
+use partner_traits::{EnterCall, Partner};
+use ring_setup::Parameters;
+use ring_traits::PartnerSide;
 
 /// The flag of an enter that asks for completions (`IORING_ENTER_GETEVENTS`).
 const GETEVENTS: u32 = 1;

@@ -2,8 +2,8 @@
 use Rattle.std.specs.Prelude.{ℕ, ◌+◌, true, false, List, [], ◌∷◌, ◌++◌, Option, Some, None, codes, decimal, flat_map}
 use Rattle.std.specs.Fmt.{signed_decimal}
 use Rattle.hex.specs.Hex.{encode_lower}
-use Rattle.uring_entry.specs.declared.events.Event.{Event}
-use Rattle.uring_entry.specs.declared.events.Event.TheVariants.{Turn, Take, Post}
+use Rattle.uring_base.specs.declared.events.Event.{Event}
+use Rattle.uring_base.specs.declared.events.Event.TheVariants.{Turn, Take, Post}
 use Rattle.uring_model.specs.declared.jobs.Outcome.{Outcome}
 
 -- two lower case digits for each byte, or a dash where there is none

@@ -6,7 +6,7 @@ ghost use Rattle.uring_text.specs.Lines.{lines_of, fields_of, number_below, byte
 
 use hex::FromHexError;
 use std::alloc::{AllocError, Global};
-use uring_entry::Buf;
+use uring_base::Buf;
 
 /// Where the first `at` stands.
 fn place_of(bytes: &[u8], at: u8) -> Option<usize>

@@ -6,7 +6,7 @@ ghost use Rattle.uring_text.specs.Script.{read_fields, write_fields, fsync_field
 use crate::fields::{bytes_of, number_to};
 use crate::limits::{MOST_JOB, MOST_LEN, MOST_NUMBER, MOST_OFFSET, MOST_SIZE};
 use std::alloc::{AllocError, Global};
-use uring_entry::Buf;
+use uring_base::Buf;
 use uring_model::JobKind;
 
 /// `read N OFFSET LEN`

@@ -6,7 +6,7 @@ ghost use Rattle.uring_text.specs.Report.{buffer_text, outcome_line, event_line,
 
 use std::alloc::{AllocError, Global};
 use std::fmt::Write;
-use uring_entry::{Buf, Event};
+use uring_base::{Buf, Event};
 use uring_model::{Outcome, Report, RunFault};
 
 #[cfg(test)]

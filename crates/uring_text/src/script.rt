@@ -4,7 +4,7 @@ ghost use Rattle.std.specs.Prelude.{◌≡◌};
 ghost use Rattle.uring_text.specs.declared.script.ScriptFault.TheVariants.{NoMemory};
 
 use std::alloc::AllocError;
-use uring_entry::Buf;
+use uring_base::Buf;
 use uring_model::Job;
 
 /// A file that stands at the start, by its number.

@@ -5,7 +5,7 @@ ghost use Rattle.uring_model.specs.declared.jobs.RunFault.TheVariants.{NoMemory}
 ghost use Rattle.uring_text.specs.Status.{code_of, words_of};
 
 use std::alloc::{AllocError, Global};
-use uring_entry::Buf;
+use uring_base::Buf;
 use uring_model::RunFault;
 
 /// How a run of the program ended.

@@ -1,8 +1,8 @@
 -- Which operations a cancel means.
 use Rattle.std.specs.Prelude.{ℕ, ℤ, Option, Some, None}
-use Rattle.uring_entry.specs.declared.types.Target.{Target}
-use Rattle.uring_entry.specs.declared.types.Target.TheVariants.{Fd, Fixed}
-use Rattle.uring_entry.specs.Words.{no_fd, signed_of}
+use Rattle.uring_base.specs.declared.types.Target.{Target}
+use Rattle.uring_base.specs.declared.types.Target.TheVariants.{Fd, Fixed}
+use Rattle.uring_base.specs.Words.{no_fd, signed_of}
 
 -- the cancel's flags, and the user data or the target of what it means, where it asks for one
 pub record Cancel : Type 0 where

@@ -1,6 +1,6 @@
 -- Where the parts of a received message lie in its buffer.
 use Rattle.std.specs.Prelude.{◌≡◌, ℕ, ◌+◌, ◌-◌, ◌≤◌, List, length, min, slice_range}
-use Rattle.uring_entry.specs.Bytes.{word_at}
+use Rattle.uring_base.specs.Bytes.{word_at}
 use Rattle.uring_types.specs.declared.messages.RecvMsgOut.{RecvMsgOut}
 
 -- the header is four words; then come the field of the name, that of the control data, and the payload

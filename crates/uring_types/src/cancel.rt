@@ -3,7 +3,7 @@
 ghost use Rattle.std.specs.Prelude.{◌≡◌, bit_or};
 
 use std::marker::Model;
-use uring_entry::types::{Target, UseTarget};
+use uring_base::types::{Target, UseTarget};
 
 /// The operation or operations that a cancel means, under the bits of the Linux io_uring header
 /// (`IORING_ASYNC_CANCEL_ALL` 1, `_FD` 2, `_ANY` 4, `_FD_FIXED` 8).

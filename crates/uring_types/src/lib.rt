@@ -25,7 +25,7 @@ pub use slots::DestinationSlot;
 pub use submit_args::SubmitArgs;
 pub use time::Timespec;
 pub use timeout_flags::TimeoutFlags;
-pub use uring_entry::types::{Fd, Fixed, FsyncFlags, Target, UseTarget};
+pub use uring_base::types::{Fd, Fixed, FsyncFlags, Target, UseTarget};
 
 /// The flags of a read or write, under the bits of `preadv2` (`RWF_HIPRI` and others). They
 /// stand in an entry's word for the operation's flags.

@@ -1,9 +1,9 @@
 //! A received message with its header.
 
 ghost use Rattle.std.specs.Prelude.{◌≡◌, ◌+◌, ◌<◌, ◌↔◌, length, IfOk, IsErr, IsTrue};
-ghost use Rattle.uring_entry.specs.FlagBits.{has_bit};
+ghost use Rattle.uring_base.specs.FlagBits.{has_bit};
 
-use uring_entry::words::word_from;
+use uring_base::words::word_from;
 
 /// A message as it lies in a buffer that an operation received into: a header of four numbers of
 /// 32 bits, a field for the sender's name, a field for control data, and the payload. The lengths

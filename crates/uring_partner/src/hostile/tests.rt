@@ -3,10 +3,11 @@
 use crate::{EnterCall, HostilePartner, LoanPlan, Partner, Scripted, Seedable};
 use std::process::Abort;
 use std::test::Fail;
-use uring_entry::squeue::Entry;
-use uring_entry::types::{Fixed, UseTarget};
-use uring_entry::{Buf, Event, Loan};
-use uring_ring::{IoUring, UserEnds};
+use uring_base::squeue::Entry;
+use uring_base::types::{Fixed, UseTarget};
+use uring_base::{Buf, Event, Loan};
+use ring_traits::UserEnds;
+use uring_ring::IoUring;
 
 const CALL: EnterCall = EnterCall {
     ring: -1,

@@ -4,10 +4,11 @@ use crate::{EnterCall, MemoryPartner, Partner, PartnerError, Seedable};
 use std::alloc::{AllocError, Global};
 use std::process::Abort;
 use std::test::Fail;
-use uring_entry::squeue::{Entry, Flags};
-use uring_entry::types::{Fixed, UseTarget};
-use uring_entry::{Buf, Event, Loan};
-use uring_ring::{IoUring, UserEnds};
+use uring_base::squeue::{Entry, Flags};
+use uring_base::types::{Fixed, UseTarget};
+use uring_base::{Buf, Event, Loan};
+use ring_traits::UserEnds;
+use uring_ring::IoUring;
 
 /// Offers an entry under a number.
 fn offer(rt: &impl Abort, ring: &mut IoUring, entry: Entry, number: u64, loan: Option<Loan>) {

@@ -5,8 +5,8 @@ use crate::{
 };
 use std::process::Abort;
 use std::test::Fail;
-use uring_entry::cqueue;
-use uring_entry::squeue::Entry;
+use uring_base::cqueue;
+use uring_base::squeue::Entry;
 
 /// Asserts that a push was refused and gave this job's entry and loan back.
 fn assert_refused(rt: &impl Abort, pushed: Result<(), Refused<Entry>>, number: u64) {

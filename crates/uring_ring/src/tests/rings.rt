@@ -2,8 +2,8 @@ use crate::tests::{assert_loan, job, loan_of, posted};
 use crate::{Builder, IoUring, PartnerSide, SetupError, UserEnds};
 use std::process::Abort;
 use std::test::Fail;
-use uring_entry::squeue::Entry;
-use uring_entry::{Completion, Loan, Taken};
+use uring_base::squeue::Entry;
+use uring_base::{Completion, Loan, Taken};
 
 /// Asserts that the job came with its loan, and that the entry is a small one.
 fn assert_taken(rt: &impl Abort, taken: Option<Taken>, number: u64) {

@@ -2,8 +2,8 @@ use crate::tests::posted;
 use crate::{Builder, IoUring, PartnerSide, PlainSide, Received, UserEnds};
 use std::process::Abort;
 use std::test::Fail;
-use uring_entry::squeue::Entry;
-use uring_entry::{Taken, cqueue};
+use uring_base::squeue::Entry;
+use uring_base::{Taken, cqueue};
 use uring_large::cqueue::Entry32;
 use uring_large::squeue::Entry128;
 

@@ -1,7 +1,7 @@
 use crate::report_text;
 use std::alloc::{AllocError, Global};
 use std::test::Fail;
-use uring_entry::{Buf, Event};
+use uring_base::{Buf, Event};
 use uring_model::{Outcome, Report};
 
 /// A result, and the bytes of the buffer, if there is one.

@@ -2,13 +2,13 @@ use Rattle.std.proofs.Common.{◌≡◌, ℕ, ◌<◌, List, [], Contains, true,
 use Rattle.std.proofs.lemmas.Result.{err_from_is_err_and}
 use Rattle.uring_model.specs.Machine.{Files}
 use Rattle.uring_model.specs.Schedule as schedule
-use Rattle.uring_model.specs.Viewed.{IsIdle}
+use Rattle.uring_model.specs.Refines.{IsIdle}
 use Rattle.uring_model.specs.Moves.{Move, log_of}
-use Rattle.uring_entry.specs.declared.events.Taken.{Taken}
-use Rattle.uring_entry.specs.declared.events.LogEvent.{LogEvent}
+use Rattle.uring_base.specs.declared.events.Taken.{Taken}
+use Rattle.uring_base.specs.declared.events.LogEvent.{LogEvent}
 use Rattle.uring_model.specs.declared.jobs.RunFault.{RunFault}
 use Rattle.uring_model.specs.declared.jobs.RunFault.TheVariants as faults
-use Rattle.uring_ring.specs.Lists.{Lists}
+use Rattle.ring_traits.specs.Lists.{Lists}
 use Rattle.run_loop.specs.declared.entries.Offer.{Offer}
 use Rattle.run_loop.specs.declared.slot.Slot.{Slot}
 use Rattle.run_loop.specs.Slots.{count_open}

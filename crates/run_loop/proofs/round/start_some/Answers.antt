@@ -1,5 +1,5 @@
 use Rattle.std.proofs.Common.{◌≡◌, ◌∷◌, [], ◌++◌, length, ◌+◌, arith, length-append, append_assoc, ap, sym, ◌∙◌}
-use Rattle.uring_ring.specs.Lists.{small}
+use Rattle.ring_traits.specs.Lists.{small}
 use Rattle.run_loop.specs.Entries.{all_taken, entry_of, loan_of}
 use Rattle.run_loop.proofs.RingLemmas.{offers_joined}
 use Rattle.run_loop.proofs.StartLemmas.{ahead_next}

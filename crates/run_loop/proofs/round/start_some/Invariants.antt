@@ -1,6 +1,6 @@
 use Rattle.std.proofs.Common.{◌≡◌, ◌+◌, List, ◌++◌, length}
-use Rattle.uring_entry.specs.declared.events.Taken.{Taken}
-use Rattle.uring_ring.specs.Lists.{Becomes}
+use Rattle.uring_base.specs.declared.events.Taken.{Taken}
+use Rattle.ring_traits.specs.Lists.{Becomes}
 use Rattle.run_loop.specs.Entries.{all_taken}
 use Rattle.run_loop.specs.Rounds.{pushed_more}
 use Rattle.run_loop.specs.Flights.{IsSettled}

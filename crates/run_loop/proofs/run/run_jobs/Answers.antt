@@ -1,5 +1,5 @@
 use Rattle.std.proofs.Common.{subst}
-use Rattle.uring_entry.specs.Sizes.{rounded_up}
+use Rattle.uring_base.specs.Sizes.{rounded_up}
 use Rattle.uring_model.specs.declared.jobs.RunFault.TheVariants as faults
 use Rattle.run_loop.specs.Entries.{AllValid, AllInRange}
 use Rattle.run_loop.proofs.Opened.{opened_calm, opened_holds}

@@ -6,7 +6,7 @@ use Rattle.run_loop.specs.Driven.{Driven, IsGivenUp}
 use Rattle.run_loop.specs.Runs.{RunSays}
 use Rattle.run_loop.specs.Slots.{slots_from, open_slots}
 use Rattle.std.specs.List.{AllByRecursion}
-use Rattle.uring_model.specs.World.{IsSix}
+use Rattle.uring_model.specs.Asks.{IsJobEntry}
 use Rattle.run_loop.specs.Entries.{all_taken}
 use Rattle.run_loop.proofs.Asks.{six_all}
 use Rattle.run_loop.proofs.Posts.{slots_first}
@@ -23,7 +23,7 @@ drive-requires-clause-slots g c =
     (c.in-Ok.ensures.slots ∙ ap open_slots c.deref.ensures.value ∙ sym (slots_first 0 c.args.jobs.items) ∙ ap (λ o. slots_from 0 o []) (sym c.new-todo.ensures), c.in-Ok.ensures.started)
 
 pub drive-requires-clause-six : goal.drive-requires-clause-six
-drive-requires-clause-six g c = subst (λ o. AllByRecursion IsSix (all_taken o)) (sym c.new-todo.ensures) (six_all 0 c.args.jobs.items c.requires.valid c.requires.in_range)
+drive-requires-clause-six g c = subst (λ o. AllByRecursion IsJobEntry (all_taken o)) (sym c.new-todo.ensures) (six_all 0 c.args.jobs.items c.requires.valid c.requires.in_range)
 
 pub drive-requires-clause-settled : goal.drive-requires-clause-settled
 drive-requires-clause-settled g c =

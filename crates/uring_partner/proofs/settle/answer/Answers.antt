@@ -16,7 +16,7 @@ returns-clause-marks c =
 
 pub returns-clause-files : goal.returns-clause-files
 returns-clause-files c =
-    subst (λ y. OnOk c.perform_on_loan.result (c.perform_on_loan.new.files ≡ y.files))
+    subst (λ y. OnOk c.perform_on_loan.result (c.perform_on_loan.new.files ≡ y.world))
     (performed_among c.args.files.now c.args.rest.now.items c.args.item.now c.args.asked c.finds_job-can_cancel.result c.if-item.false c.if-item-2.false c.requires.asks c.finds_job-can_cancel.ensures) c.perform_on_loan.ensures.files
 
 pub returns-clause-item : goal.returns-clause-item

@@ -1,5 +1,5 @@
 use Rattle.std.proofs.Common.{◌≡◌, [], Ok, Err, refl, sym, ap, ◌∙◌, subst, arith}
-use Rattle.uring_ring.specs.Lists.{Becomes, WhereTold, all_published}
+use Rattle.ring_traits.specs.Lists.{Becomes, WhereTold, all_published}
 use Rattle.rent_engine.specs.Engines.{Reaped, finals_in}
 use Rattle.rent_engine.proofs.Pumping.{published_reaped, Pumps-taken, Pumps-strange, Pumped-more, Pumped-same, finals_more, is_last}
 use Rattle.rent_engine.proofs.engine.Engine.pump.Goals as goal

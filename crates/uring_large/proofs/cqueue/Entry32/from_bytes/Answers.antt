@@ -1,7 +1,7 @@
 -- The first 16 bytes come back from the small entry, and the others from the two numbers.
 use Rattle.std.proofs.Common.{rules, ap₂, ◌∙◌, ◌≡◌, ◌++◌, take, take-append-drop, w64}
 use Rattle.std.specs.Int.{to_le_bytes}
-use Rattle.uring_entry.proofs.Codec.{join}
+use Rattle.uring_base.proofs.Codec.{join}
 use Rattle.uring_large.proofs.Codec.{two_numbers}
 use Rattle.uring_large.proofs.cqueue.Entry32.from_bytes.Goals as goal
 

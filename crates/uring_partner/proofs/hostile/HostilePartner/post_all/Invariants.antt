@@ -1,5 +1,5 @@
 use Rattle.std.proofs.Common.{◌-◌, List, map, vec_len}
-use Rattle.uring_entry.specs.declared.events.Completion.{Completion}
+use Rattle.uring_base.specs.declared.events.Completion.{Completion}
 use Rattle.uring_model.specs.Moves.{Posted}
 use Rattle.uring_partner.specs.Logs.{LogsBy}
 use Rattle.uring_partner.proofs.hostile.HostilePartner.post_all.Given as goal

@@ -1,6 +1,6 @@
 use Rattle.std.proofs.Common.{List, map}
 use Rattle.std.specs.VecDeque.{deque_len}
-use Rattle.uring_entry.specs.declared.events.Completion.{Completion}
+use Rattle.uring_base.specs.declared.events.Completion.{Completion}
 use Rattle.uring_model.specs.Moves.{Posted}
 use Rattle.uring_partner.specs.Parts.{GoesBy}
 use Rattle.uring_partner.specs.Told.{state_of}

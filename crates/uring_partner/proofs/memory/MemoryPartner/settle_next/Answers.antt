@@ -22,7 +22,7 @@ returns-in-Err-clause-err c =
     let back : c.put_back.new.self.items.items ≡ c.args.self.now.pending.items.items =
     c.put_back.ensures ∙ ap (insert c.take_out-item.new.self.items.items c.chosen_place-place.result) item
     ∙ put_back c.args.self.now.pending.items.items q.0 c.chosen_place-place.result c.take_out-item.new.self.items.items m q.2 (c.take_out-item.ensures.rest ∙ m.rest) in
-    (λ i. record { files = c.in-Err.ensures.err.0 i; pending = back i; tail = c.args.self.now.tail; choices = c.args.self.now.choices.items }, c.in_ok-try_reserve.ensures.items)
+    (λ i. record { world = c.in-Err.ensures.err.0 i; pending = back i; tail = c.args.self.now.tail; choices = c.args.self.now.choices.items }, c.in_ok-try_reserve.ensures.items)
 
 pub returns-in-Ok-clause-ok : goal.returns-in-Ok-clause-ok
 returns-in-Ok-clause-ok c =
@@ -30,7 +30,7 @@ returns-in-Ok-clause-ok c =
     let m = cursor_removed c.next_choice.result c.args.self.now.pending.items.items q.0 c.chosen_place-place.result q.1 q.2 in
     let fits : SFits w32 c.in-Ok.settled.answered.result = search rules in
     let chosen = subst (λ n. named n (ready_cursors [] c.args.self.now.pending.items.items) ≡ Some q.0) c.next_choice.ensures q.1 in
-    subst (λ z. (s : Settles (state_of c.args.self.now) z) × (◌≡◌ {A = PartnerState} (record { files = c.settle.new.files; pending = c.mark_if.new.self.items.items; tail = c.pass_on.new.tail; choices = c.pop_front-used.new.self.items }) (after_settle (state_of c.args.self.now) s.cursor (answer_to c.args.self.now.files s.cursor)))) (sym c.final_completion.ensures)
+    subst (λ z. (s : Settles (state_of c.args.self.now) z) × (◌≡◌ {A = PartnerState} (record { world = c.settle.new.files; pending = c.mark_if.new.self.items.items; tail = c.pass_on.new.tail; choices = c.pop_front-used.new.self.items }) (after_settle (state_of c.args.self.now) s.cursor (answer_to c.args.self.now.files s.cursor)))) (sym c.final_completion.ensures)
     (code_settles (state_of c.args.self.now) q.0 c.chosen_place-place.result c.take_out-item.result c.take_out-item.new.self.items.items c.settle.new.item
     _ c.in-Ok.settled.answered.marks c.in-Ok.settled.cut c.has_link-is_linked.result c.settle.new.files c.pass_on.new.self.items.items c.mark_if.new.self.items.items c.pass_on.new.tail c.pop_front-used.new.self.items
     chosen q.2 m (c.take_out-item.ensures.item ∙ m.item c.take_out-item.result) c.take_out-item.ensures.rest

@@ -1,5 +1,5 @@
 use Rattle.std.proofs.Common.{◌≡◌, ◌≤◌, ◌+◌, List, length, map}
-use Rattle.uring_entry.specs.declared.events.Taken.{Taken}
+use Rattle.uring_base.specs.declared.events.Taken.{Taken}
 use Rattle.uring_model.specs.Moves.{Took}
 use Rattle.uring_model.specs.Turn.{take_all}
 use Rattle.uring_partner.specs.Parts.{GoesBy}

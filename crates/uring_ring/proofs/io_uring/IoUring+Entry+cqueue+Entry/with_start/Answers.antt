@@ -1,7 +1,7 @@
 use Rattle.std.proofs.Common.{ap, ◌∙◌}
 use Rattle.ring_setup.specs.Setup.{is_buildable, with_start}
-use Rattle.uring_entry.specs.declared.squeue.Entry as small
-use Rattle.uring_entry.specs.declared.cqueue.Entry as small_completion
+use Rattle.uring_base.specs.declared.squeue.Entry as small
+use Rattle.uring_base.specs.declared.cqueue.Entry as small_completion
 use Rattle.uring_ring.specs.declared.io_uring.IoUring.{IoUring}
 use Rattle.ring_setup.specs.declared.settings.Settings.{Settings}
 use Rattle.ring_core.specs.declared.error.SetupError.{SetupError}

@@ -1,7 +1,7 @@
 use Rattle.std.proofs.Common.{◌≡◌, ◌∙◌, ℕ, [], Option, Some, Ok, Err, sym, subst, ap, true, false}
 use Rattle.ring_setup.specs.declared.parameters.Parameters.{Parameters}
-use Rattle.partner_calls.specs.declared.call.EnterCall.{EnterCall}
-use Rattle.partner_calls.specs.Calls.{IsCall, IsWholeTurn}
+use Rattle.partner_traits.specs.declared.call.EnterCall.{EnterCall}
+use Rattle.partner_traits.specs.Calls.{IsCall, IsWholeTurn}
 use Rattle.uring_submit.specs.Decisions.{decision}
 use Rattle.uring_submit.specs.Submits.{params_of, Submits}
 use Rattle.uring_submit.proofs.Unmoved.{unmoved}

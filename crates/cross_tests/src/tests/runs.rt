@@ -1,0 +1,169 @@
+use uring_run::{Job, JobKind, Link, RunFault, run_jobs};
+use std::alloc::{AllocError, Global};
+use std::process::Abort;
+use std::test::Fail;
+use uring_base::{Buf, Event};
+use uring_partner::{HostilePartner, LoanPlan, MemoryPartner, Partner, Scripted, Seedable};
+
+fn free(kind: JobKind) -> Job {
+    Job {
+        kind,
+        drain: false,
+        link: Link::Free,
+    }
+}
+
+fn one(alloc: Global, kind: JobKind) -> Result<Vec<Job>, AllocError> {
+    let mut jobs = Vec::new(alloc);
+    jobs.push(free(kind))?;
+    Ok(jobs)
+}
+
+fn read_of_two(alloc: Global) -> Result<JobKind, AllocError> {
+    Ok(JobKind::Read {
+        file: 3,
+        offset: 0,
+        buf: Buf::zeroed(alloc, 2)?,
+    })
+}
+
+fn post(user_data: u64, outcome: i32, flags: u32, loan: LoanPlan) -> Scripted {
+    Scripted::Post {
+        user_data,
+        result: outcome,
+        flags,
+        loan,
+    }
+}
+
+/// A write past the end of an empty file, and a read of it, with ample memory.
+#[test]
+fn each_call(rt: HostRuntime) -> Result<(), Fail> {
+    let alloc = rt.alloc();
+    let mut partner = MemoryPartner::new(alloc);
+    assert!(rt; partner.put_file(alloc, 1, Buf::new(alloc)).is_ok());
+    let mut jobs = one(
+        alloc,
+        JobKind::Write {
+            file: 1,
+            offset: 2,
+            buf: Buf::from_slice(alloc, &[255])?,
+        },
+    )?;
+    jobs.push(free(JobKind::Read {
+        file: 1,
+        offset: 0,
+        buf: Buf::zeroed(alloc, 3)?,
+    }))?;
+    let Ok(report) = run_jobs(alloc, 8, 16, u32::MAX, 2, &mut partner, jobs) else {
+        assert!(rt; false);
+        return Ok(());
+    };
+    assert_eq!(rt; report.outcomes.len(), 2);
+    assert_eq!(rt; report.outcomes[0].result, 1);
+    assert_eq!(rt; report.outcomes[1].result, 3);
+    assert!(rt; report.outcomes[0].buf.is_some());
+    assert_eq!(rt; report.journal.len(), 5);
+    assert_eq!(rt; report.journal[0], Event::Turn(2));
+    assert!(rt; partner.is_idle());
+    Ok(())
+}
+
+/// What a run answers to one job over a partner with this script, or none for its report.
+fn fault_over(
+    rt: &impl Abort,
+    alloc: Global,
+    kind: JobKind,
+    posts: Vec<Scripted>,
+) -> Result<Option<RunFault>, Fail> {
+    let mut partner = HostilePartner::new(alloc, posts);
+    let jobs = one(alloc, kind)?;
+    match run_jobs(alloc, 8, 16, 0, 2, &mut partner, jobs) {
+        Ok(report) => {
+            assert_eq!(rt; report.outcomes.len(), 1);
+            Ok(None)
+        }
+        Err(fault) => Ok(Some(fault)),
+    }
+}
+
+/// Posts that no job is due are strangers, a silent partner stalls, and a count above the buffer
+/// is told as it came.
+#[test]
+fn hostile_partners(rt: HostRuntime) -> Result<(), Fail> {
+    let alloc = rt.alloc();
+    let posts = vec![in alloc; post(7, 0, 0, LoanPlan::Nothing)]?;
+    assert_eq!(rt;
+        fault_over(&rt, alloc, JobKind::Nop, posts)?,
+        Some(RunFault::Stranger(7))
+    );
+    let read = read_of_two(alloc)?;
+    let posts = vec![in alloc; post(0, 2, 0, LoanPlan::Foreign(9))]?;
+    assert_eq!(rt;
+        fault_over(&rt, alloc, read, posts)?,
+        Some(RunFault::Stranger(0))
+    );
+    let read = read_of_two(alloc)?;
+    let posts = vec![in alloc; post(0, 2, 0, LoanPlan::Nothing)]?;
+    assert_eq!(rt;
+        fault_over(&rt, alloc, read, posts)?,
+        Some(RunFault::Stranger(0))
+    );
+    let posts = Vec::new(alloc);
+    assert_eq!(rt;
+        fault_over(&rt, alloc, JobKind::Nop, posts)?,
+        Some(RunFault::Stalled)
+    );
+    let read = read_of_two(alloc)?;
+    let posts = vec![in alloc; post(0, 1000, 0, LoanPlan::Lent)]?;
+    assert_eq!(rt; fault_over(&rt, alloc, read, posts)?, None);
+    Ok(())
+}
+
+/// A silent partner is given up after as many turns as may pass: its log has a turn over the entry,
+/// the entry's taking, and a turn over none.
+#[test]
+fn idle_turns(rt: HostRuntime) -> Result<(), Fail> {
+    let alloc = rt.alloc();
+    let mut partner = HostilePartner::new(alloc, Vec::new(alloc));
+    let jobs = one(alloc, JobKind::Nop)?;
+    let run = run_jobs(alloc, 8, 16, 0, 2, &mut partner, jobs);
+    assert!(rt; matches!(run, Err(RunFault::Stalled)));
+    assert_eq!(rt; partner.log_len(), 3);
+    Ok(())
+}
+
+/// Sizes are tested first, and then the jobs.
+#[test]
+fn refusals(rt: HostRuntime) -> Result<(), Fail> {
+    let alloc = rt.alloc();
+    let mut partner = MemoryPartner::new(alloc);
+    let far = JobKind::Read {
+        file: 1,
+        offset: 9_223_372_036_854_775_807,
+        buf: Buf::zeroed(alloc, 1)?,
+    };
+    let sizes = run_jobs(alloc, 8, 4, 0, 1, &mut partner, Vec::new(alloc));
+    assert!(rt; matches!(sizes, Err(RunFault::BadSize)));
+    let jobs = run_jobs(alloc, 8, 16, 0, 1, &mut partner, one(alloc, far)?);
+    assert!(rt; matches!(jobs, Err(RunFault::BadJob(0))));
+    Ok(())
+}
+
+/// A sync tells that it went well, or the errno: a result above 0 is told as 0.
+#[test]
+fn syncs(rt: HostRuntime) -> Result<(), Fail> {
+    let alloc = rt.alloc();
+    for (posted, told) in [(5, 0), (0, 0), (-5, -5)] {
+        let posts = vec![in alloc; post(0, posted, 0, LoanPlan::Nothing)]?;
+        let mut partner = HostilePartner::new(alloc, posts);
+        let jobs = one(alloc, JobKind::Fsync { file: 3 })?;
+        let Ok(report) = run_jobs(alloc, 8, 16, 0, 2, &mut partner, jobs) else {
+            assert!(rt; false);
+            return Ok(());
+        };
+        assert_eq!(rt; report.outcomes.len(), 1);
+        assert_eq!(rt; report.outcomes[0].result, told);
+    }
+    Ok(())
+}

@@ -1,0 +1,135 @@
+ghost use Rattle.std.specs.Prelude.{refl};
+
+use uring_submit::{SubmitError, Submitter};
+use std::alloc::Global;
+use std::process::Abort;
+use std::test::Fail;
+use uring_base::Event;
+use uring_base::squeue::Entry;
+use uring_partner::{Counts, EnterCall, MemoryPartner, Partner, PartnerError};
+use ring_traits::{PartnerSide, UserEnds};
+use uring_ring::IoUring;
+
+/// A partner in memory, and the call of its last enter.
+#[derive(Drop)]
+struct Recording {
+    inner: MemoryPartner,
+    last: Option<EnterCall>,
+}
+
+impl Counts for Recording {
+    ghost faults = { λ partner. ⟦<MemoryPartner as Counts>⟧.faults partner.inner };
+}
+
+impl Partner for Recording {
+    ghost log = { λ partner. ⟦<MemoryPartner as Partner>⟧.log partner.inner };
+
+    ghost log_count = { λ partner. ⟦<MemoryPartner as Partner>⟧.log_count partner.inner };
+
+    ghost World = { ⟦<MemoryPartner as Partner>⟧.World };
+
+    ghost machine = { ⟦<MemoryPartner as Partner>⟧.machine };
+
+    ghost state = { λ partner. ⟦<MemoryPartner as Partner>⟧.state partner.inner };
+
+    ghost view = { ⟦<MemoryPartner as Partner>⟧.view };
+
+    ghost Plain = { ⟦<MemoryPartner as Partner>⟧.Plain };
+
+    ghost refines = { ⟦<MemoryPartner as Partner>⟧.refines };
+
+    ghost put = { ⟦<MemoryPartner as Partner>⟧.put };
+
+    ghost puts = { ⟦<MemoryPartner as Partner>⟧.puts };
+
+    ghost plan = { λ partner. ⟦<MemoryPartner as Partner>⟧.plan partner.inner };
+
+    fn enter<Q: PartnerSide>(
+        &mut self,
+        alloc: Global,
+        call: &EnterCall,
+        side: &mut Q,
+    ) -> Result<u32, PartnerError> {
+        self.last = Some(*call);
+        self.inner.enter(alloc, call, side)
+    }
+
+    fn log_len(&self) -> usize {
+        self.inner.log_len()
+    }
+
+    fn log_event(&self, place: usize) -> Event {
+        self.inner.log_event(place)
+    }
+
+    ghost counts_log = { λ _. refl };
+}
+
+/// Asserts that the last enter had these values, over the raw descriptor.
+fn assert_entered(rt: &impl Abort, partner: &Recording, to_submit: u32, want: u32, flags: u32) {
+    let wanted = EnterCall {
+        ring: -1,
+        to_submit,
+        want,
+        flags,
+    };
+    assert_eq!(rt; partner.last, Some(wanted));
+}
+
+/// The one call that can find no memory answers otherwise where there is memory.
+#[test]
+fn each_call(rt: HostRuntime) -> Result<(), Fail> {
+    let alloc = rt.alloc();
+    let mut ring = IoUring::new(alloc, 2)?;
+    let mut partner = MemoryPartner::new(alloc);
+    let mut submitter = Submitter::new(ring.params());
+    assert!(rt; ring.offer(Entry::blank(0), None).is_ok());
+    ring.publish();
+    let answer = submitter.submit_and_wait(alloc, &mut ring, &mut partner, 1);
+    assert_eq!(rt; answer, Ok(1));
+    Ok(())
+}
+
+/// What is published, what is wanted and what the ring's flags say reaches the partner.
+#[test]
+fn values_of_an_enter(rt: HostRuntime) -> Result<(), Fail> {
+    let alloc = rt.alloc();
+    let mut ring = IoUring::new(alloc, 2)?;
+    let mut submitter = Submitter::new(ring.params());
+    let mut partner = Recording {
+        inner: MemoryPartner::new(alloc),
+        last: None,
+    };
+    assert_eq!(rt;
+        submitter.submit_and_wait(alloc, &mut ring, &mut partner, 0),
+        Ok(0)
+    );
+    assert_entered(&rt, &partner, 0, 0, 0);
+    assert!(rt; ring.offer(Entry::blank(0), None).is_ok());
+    ring.publish();
+    assert_eq!(rt;
+        submitter.submit_and_wait(alloc, &mut ring, &mut partner, 3),
+        Ok(1)
+    );
+    assert_entered(&rt, &partner, 1, 3, 1);
+    ring.set_sq_flags(2);
+    assert_eq!(rt;
+        submitter.submit_and_wait(alloc, &mut ring, &mut partner, 0),
+        Ok(0)
+    );
+    assert_entered(&rt, &partner, 0, 0, 1);
+    Ok(())
+}
+
+/// A partner's fault is handed on with its errno.
+#[test]
+fn faults_are_handed_on(rt: HostRuntime) -> Result<(), Fail> {
+    let alloc = rt.alloc();
+    let mut ring = IoUring::new(alloc, 2)?;
+    let mut submitter = Submitter::new(ring.params());
+    let mut partner = MemoryPartner::new(alloc);
+    assert!(rt; partner.fail_enter(alloc, 1).is_ok());
+    let answer = submitter.submit_and_wait(alloc, &mut ring, &mut partner, 1);
+    assert_eq!(rt; answer, Err(SubmitError::Fault(5)));
+    Ok(())
+}

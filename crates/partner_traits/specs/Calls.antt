@@ -1,0 +1,69 @@
+-- What one call of a partner does.
+use Rattle.std.specs.Prelude.{◌≡◌, ℕ, ◌-◌, ◌≤◌, ◌⊎◌, min, Bool, true, false, nat_lt, List, [], ◌∷◌, ◌++◌, length, map, filter, Option, Some, None, IfSome}
+use Rattle.std.specs.FinMap.{insert}
+use Rattle.uring_base.specs.declared.events.Taken.{Taken}
+use Rattle.uring_base.specs.declared.events.Completion.{Completion}
+use Rattle.uring_base.specs.declared.events.LogEvent.{LogEvent}
+use Rattle.uring_model.specs.Moves.{Move, Turned, took, posted, IsLogged}
+use Rattle.uring_model.specs.Machine.{Files}
+use Rattle.uring_model.specs.Schedule.{Machine, State, IsServed, turn}
+use Rattle.uring_model.specs.Progress.{turns, moves_of_turn}
+use Rattle.ring_traits.specs.Lists.{Lists, room_of}
+use Rattle.partner_traits.specs.declared.call.PartnerError.{PartnerError}
+use Rattle.partner_traits.specs.declared.call.PartnerError.TheVariants.{Fault, NoMemory}
+
+abbrev pub is_fault : PartnerError → Bool
+is_fault (Fault errno) = true
+is_fault NoMemory = false
+
+-- A turn: its number is the smaller of what is asked and what is published, it comes first, and at most so many are taken.
+pub record IsTurn (to_submit : ℕ) (lists : Option Lists) (ms : List Move) : Type 0 where
+  pub p : ℕ
+  pub fits : p ≤ to_submit
+  pub told : IfSome lists (λ l. p ≡ min to_submit (length l.published))
+  pub rest : List Move
+  pub moves : ms ≡ Turned p ∷ rest
+  pub one : turns rest ≡ 0
+  pub few : length (took rest) ≤ p
+
+-- What a call does: a turn where it succeeds; where it fails, nothing or a turn so far.
+abbrev pub IsCall : Bool → ℕ → Option Lists → List Move → Type 0
+IsCall true to_submit lists ms = IsTurn to_submit lists ms
+IsCall false to_submit lists ms = (ms ≡ []) ⊎ IsTurn to_submit lists ms
+
+-- what one call did with the side, with the log and with the state, where these are told
+pub record Enters {W : Type 0} (m : Machine W) {P Q : Type 0} (log : P → Option (List LogEvent)) (state : P → Option (State W)) (moved : Q → List Taken → List Completion → Q → Type 0) (old new : P) (from to : Q) (ms : List Move) : Type 0 where
+  pub sides : moved from (took ms) (posted ms) to
+  pub logs : IsLogged (log old) ms (log new)
+  pub states : IsServed m (state old) ms (state new)
+
+-- Where files and lists are told, a whole turn takes what its number says and posts what the room at entry lets it.
+pub record IsTurnOf {W : Type 0} (m : Machine W) (a : State W) (l : Lists) (ms : List Move) : Type 0 where
+  pub ts : List Taken
+  pub moves : ms ≡ moves_of_turn (length ts) ts (turn m ts (room_of l) a).posts
+
+abbrev pub IsWholeTurn : {W : Type 0} → Machine W → Option (State W) → Option Lists → List Move → Type 0
+IsWholeTurn m (Some a) (Some l) ms = IsTurnOf m a l ms
+IsWholeTurn m (Some a) None ms = Unit {0}
+IsWholeTurn m None l ms = Unit {0}
+
+-- a plan of failures after one more enter
+abbrev pub later_plan : List ℕ → List ℕ
+later_plan plan = map (λ k. k - 1) (filter (nat_lt 1) plan)
+
+-- a change of the state, where it is told
+abbrev pub StateBecomes : {W : Type 0} → Option (State W) → (State W → State W) → Option (State W) → Type 0
+StateBecomes None f after = after ≡ None
+StateBecomes (Some a) f after = after ≡ Some (f a)
+
+abbrev pub with_file : {W : Type 0} → (ℕ → List ℕ → W → W) → ℕ → List ℕ → State W → State W
+with_file put number bytes a = record a { world = put number bytes a.world }
+
+-- what is put in is seen among the files, and leaves the world plain
+pub record Puts {W : Type 0} (view : W → Files) (Plain : W → Type 0) (put : ℕ → List ℕ → W → W) : Type 0 where
+  pub seen : (number : ℕ) (bytes : List ℕ) (w : W) → view (put number bytes w) ≡ insert (view w) number bytes
+  pub plain : (number : ℕ) (bytes : List ℕ) (w : W) → Plain w → Plain (put number bytes w)
+
+-- the choice is the last of those that are left
+abbrev pub with_choice : {W : Type 0} → ℕ → State W → State W
+with_choice c a = record a { choices = a.choices ++ c ∷ [] }

@@ -1,0 +1,56 @@
+-- What a partner did for a script.
+use Rattle.std.specs.Prelude.{◌≡◌, ◌⊎◌, ℕ, Bool, true, false, List, Option, Some, Result, Err}
+use Rattle.uring_base.specs.declared.events.LogEvent.{LogEvent}
+use Rattle.uring_base.specs.Sizes.{rounded_up}
+use Rattle.uring_model.specs.declared.jobs.Report.{Report}
+use Rattle.uring_model.specs.declared.jobs.RunFault.{RunFault}
+use Rattle.uring_model.specs.declared.jobs.RunFault.TheVariants as faults
+use Rattle.uring_model.specs.Machine.{Files}
+use Rattle.uring_model.specs.Schedule as schedule
+use Rattle.run_loop.specs.Runs.{RunSays, IsValidRun, refusal}
+use Rattle.uring_text.specs.Script.{Told}
+use Rattle.uring_text.specs.declared.status.Status.{Status}
+use Rattle.uring_text.specs.declared.status.Status.TheVariants as ends
+use Rattle.uring_cli.specs.declared.words.Options.{Options}
+use Rattle.uring_cli.specs.Seeds.{IsSeeded, IsPartSeeded}
+
+-- The script's files and choices were put in, and its jobs were run with this answer.
+pub record Performed {W : Type 0} (mach : schedule.Machine W) (view : W → Files) (Plain : W → Type 0) (put : ℕ → List ℕ → W → W) {P : Type 0} (log : P → Option (List LogEvent)) (state : P → Option (schedule.State W)) (plan : P → List ℕ) (told : Told) (options : Options) (before after : P) (answer : Result Report RunFault) : Type 0 where
+  pub given : P
+  pub seeds : IsSeeded put log state plan told.files told.choices before given
+  pub valid : IsValidRun options.sq options.cq told.jobs
+  pub says : RunSays mach view Plain log state given after told.jobs (rounded_up options.sq) options.idle answer
+
+-- The script's files and choices were put in, and its jobs weren't begun.
+pub record Refused {W : Type 0} (mach : schedule.Machine W) (view : W → Files) (Plain : W → Type 0) (put : ℕ → List ℕ → W → W) {P : Type 0} (log : P → Option (List LogEvent)) (state : P → Option (schedule.State W)) (plan : P → List ℕ) (told : Told) (options : Options) (before after : P) (fault : RunFault) : Type 0 where
+  pub seeds : IsSeeded put log state plan told.files told.choices before after
+  pub refused : refusal options.sq options.cq told.jobs ≡ Some fault
+
+-- what the partner did for a script of which there is no report
+abbrev pub Failed : {W : Type 0} → schedule.Machine W → (W → Files) → (W → Type 0) → (ℕ → List ℕ → W → W) → {P : Type 0} → (P → Option (List LogEvent)) → (P → Option (schedule.State W)) → (P → List ℕ) → Told → Options → P → P → Status → Type 0
+Failed mach view Plain put log state plan told options before after ends.BadSize = Refused mach view Plain put log state plan told options before after faults.BadSize
+Failed mach view Plain put log state plan told options before after (ends.BadJob job) = Refused mach view Plain put log state plan told options before after (faults.BadJob job)
+Failed mach view Plain put log state plan told options before after (ends.Stranger number) = Performed mach view Plain put log state plan told options before after (Err (faults.Stranger number))
+Failed mach view Plain put log state plan told options before after ends.Stalled = Performed mach view Plain put log state plan told options before after (Err faults.Stalled)
+Failed mach view Plain put log state plan told options before after ends.PartnerFault = IsPartSeeded put log state plan told.files told.choices before after ⊎ Performed mach view Plain put log state plan told options before after (Err faults.PartnerFault)
+Failed mach view Plain put log state plan told options before after ends.NoMemory = IsPartSeeded put log state plan told.files told.choices before after ⊎ ((answer : Result Report RunFault) × Performed mach view Plain put log state plan told options before after answer)
+Failed mach view Plain put log state plan told options before after ends.Done = ⊥
+Failed mach view Plain put log state plan told options before after ends.Usage = ⊥
+Failed mach view Plain put log state plan told options before after ends.ReadFault = ⊥
+Failed mach view Plain put log state plan told options before after ends.TooLong = ⊥
+Failed mach view Plain put log state plan told options before after (ends.Script line) = ⊥
+Failed mach view Plain put log state plan told options before after ends.WriteFault = ⊥
+
+abbrev pub is_partner_fault : Status → Bool
+is_partner_fault ends.PartnerFault = true
+is_partner_fault ends.Done = false
+is_partner_fault ends.Usage = false
+is_partner_fault ends.ReadFault = false
+is_partner_fault ends.TooLong = false
+is_partner_fault (ends.Script line) = false
+is_partner_fault ends.BadSize = false
+is_partner_fault (ends.BadJob job) = false
+is_partner_fault (ends.Stranger number) = false
+is_partner_fault ends.Stalled = false
+is_partner_fault ends.WriteFault = false
+is_partner_fault ends.NoMemory = false

@@ -1,0 +1,41 @@
+-- The words of the command: `run`, then options in any order, each a name and a number, and none twice.
+use Rattle.std.specs.Prelude.{ℕ, ◌*◌, ◌^◌, min, List, [], ◌∷◌, Option, Some, None, is_none, unwrap_or, option_map, bytes_eq, codes, nat_lt, ◌&&◌, if◌then◌else◌}
+use Rattle.uring_text.specs.Lines.{number_below}
+use Rattle.uring_text.specs.Script.{◌>>=◌}
+use Rattle.uring_cli.specs.declared.words.Given.{Given}
+use Rattle.uring_cli.specs.declared.words.Options.{Options}
+
+abbrev pub nothing_given : Given
+nothing_given = record { sq = None; cq = None; start = None; idle = None }
+
+-- one more option. A run that gives up after no idle turn at all isn't to be had.
+unfoldable pub with_option : List ℕ → ℕ → Given → Option Given
+with_option name n given =
+    if bytes_eq name (codes "--sq") && is_none given.sq then Some (record given { sq = Some n })
+    else if bytes_eq name (codes "--cq") && is_none given.cq then Some (record given { cq = Some n })
+    else if bytes_eq name (codes "--start") && is_none given.start then Some (record given { start = Some n })
+    else if bytes_eq name (codes "--idle") && is_none given.idle && nat_lt 0 n then Some (record given { idle = Some n })
+    else None
+
+-- what names and numbers give, behind what was given before them
+unfoldable pub given_by : Given → List (List ℕ) → Option Given
+given_by given [] = Some given
+given_by given (name ∷ []) = None
+given_by given (name ∷ number ∷ words) = do
+  n ← number_below (2 ^ 32) number
+  next ← with_option name n given
+  given_by next words
+
+-- what isn't given: 8 entries, twice as many completions as entries, positions from 0, and 16 idle turns
+abbrev pub in_force : Given → Options
+in_force given = record {
+  sq = unwrap_or given.sq 8;
+  cq = unwrap_or given.cq (min (2 * unwrap_or given.sq 8) 4294967295);
+  start = unwrap_or given.start 0;
+  idle = unwrap_or given.idle 16;
+}
+
+-- the options of the command's words, where these are such
+unfoldable pub options_of : List (List ℕ) → Option Options
+options_of [] = None
+options_of (word ∷ words) = if bytes_eq word (codes "run") then option_map in_force (given_by nothing_given words) else None

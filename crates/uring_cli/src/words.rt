@@ -1,0 +1,113 @@
+//! The words of the command.
+
+ghost use Rattle.std.specs.Prelude.{◌≡◌, ◌<◌, ◌^◌, IfSome};
+ghost use Rattle.uring_text.specs.Lines.{number_below};
+ghost use Rattle.uring_cli.specs.Words.{in_force, nothing_given, options_of, with_option};
+
+use uring_base::Buf;
+use uring_text::number_to;
+
+/// A word after the program's name.
+pub type Word = Buf;
+
+/// The greatest number that an option takes.
+const MOST_NUMBER: u64 = 4_294_967_295;
+
+/// What the options say, each where it is given.
+#[derive(Clone, Copy)]
+pub struct Given {
+    pub sq: Option<u32>,
+    pub cq: Option<u32>,
+    pub start: Option<u32>,
+    pub idle: Option<u32>,
+}
+
+/// The sizes of a run, as `run_jobs` takes them.
+#[derive(Clone, Copy, PartialEq, Eq, Debug)]
+pub struct Options {
+    pub sq: u32,
+    pub cq: u32,
+    pub start: u32,
+    pub idle: u32,
+}
+
+impl Given {
+    fn nothing() -> Given
+        ensures { result ≡ nothing_given }
+    {
+        Given {
+            sq: None,
+            cq: None,
+            start: None,
+            idle: None,
+        }
+    }
+
+    /// One more option, unless there is none of this name, or it came before.
+    #[tactic(auto, unfolding(crate::specs::Words::with_option))]
+    fn with_option(self, name: &[u8], number: u32) -> Option<Given>
+        ensures { result ≡ with_option name.now number self }
+    {
+        if name == b"--sq".as_slice() && self.sq.is_none() {
+            Some(Given {
+                sq: Some(number),
+                ..self
+            })
+        } else if name == b"--cq".as_slice() && self.cq.is_none() {
+            Some(Given {
+                cq: Some(number),
+                ..self
+            })
+        } else if name == b"--start".as_slice() && self.start.is_none() {
+            Some(Given {
+                start: Some(number),
+                ..self
+            })
+        } else if name == b"--idle".as_slice() && self.idle.is_none() && number > 0 {
+            Some(Given {
+                idle: Some(number),
+                ..self
+            })
+        } else {
+            None
+        }
+    }
+
+    /// The options, those that aren't given among them.
+    fn in_force(self) -> Options
+        ensures { result ≡ in_force self }
+    {
+        let sq = self.sq.unwrap_or(8);
+        Options {
+            sq,
+            cq: self.cq.unwrap_or(sq.saturating_mul(2)),
+            start: self.start.unwrap_or(0),
+            idle: self.idle.unwrap_or(16),
+        }
+    }
+}
+
+/// The number of 32 bits that the word spells.
+fn number_of(word: &Word) -> Option<u32>
+    ensures { result ≡ number_below (2 ^ 32) word.now }
+{
+    let number = number_to(word.as_slice(), MOST_NUMBER)?;
+    Some(number as u32)
+}
+
+/// The options of the command `run`, where the words are its name and then options.
+pub fn options_of(words: &[Word]) -> Option<Options>
+    ensures options { result ≡ options_of words.now }
+    ensures idle { IfSome result (λ options. 0 < options.idle) }
+{
+    let mut rest = words.iter();
+    if rest.next()?.as_slice() != b"run".as_slice() {
+        return None;
+    }
+    let mut given = Given::nothing();
+    while let Some(name) = rest.next() {
+        let number = number_of(rest.next()?)?;
+        given = given.with_option(name.as_slice(), number)?;
+    }
+    Some(given.in_force())
+}
