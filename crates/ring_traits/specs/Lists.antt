@@ -1,10 +1,10 @@
 -- What a pair of rings holds, as both sides see it, and how the calls of both sides change that.
-use Rattle.std.specs.Prelude.{◌≡◌, ℕ, ◌+◌, ◌-◌, ◌%◌, ◌≤◌, ◌^◌, List, [], ◌∷◌, ◌++◌, length, map, replicate, Option, Some, None}
+use Rattle.std.specs.Prelude.{◌≡◌, ℕ, Bool, true, false, min, ◌+◌, ◌-◌, ◌%◌, ◌≤◌, ◌^◌, List, [], ◌∷◌, ◌++◌, length, map, replicate, Option, Some, None}
 use Rattle.uring_base.specs.declared.squeue.Entry.{Entry}
 use Rattle.uring_base.specs.declared.buffer.Loan.{Loan}
 use Rattle.uring_base.specs.declared.events.Taken.{Taken}
 use Rattle.uring_base.specs.declared.events.Completion.{Completion}
-use Rattle.ring_core.specs.Held.{Held}
+use Rattle.uring_base.specs.declared.limits.TheConstants.{MAX_ENTRIES, MAX_COMPLETIONS}
 
 pub record Lists : Type 0 where
   pub capacity : ℕ
@@ -18,17 +18,6 @@ pub record Lists : Type 0 where
   -- how many were reaped whose slots aren't given back
   pub held : ℕ
 
--- what stands in two rings of slots
-abbrev pub lists_between : Held Taken → Held Completion → Lists
-lists_between entries completions = record {
-  capacity = entries.capacity;
-  published = entries.published;
-  pushed = entries.pushed;
-  completion_capacity = completions.capacity;
-  completions = completions.published;
-  held = completions.taken;
-}
-
 -- how many more entries, and completions, fit
 abbrev pub free_of : Lists → ℕ
 free_of l = l.capacity - (length l.published + length l.pushed)
@@ -36,12 +25,12 @@ free_of l = l.capacity - (length l.published + length l.pushed)
 abbrev pub room_of : Lists → ℕ
 room_of l = l.completion_capacity - (length l.completions + l.held)
 
--- no more stands in the rings than fits, and the capacities fit 32 bits
+-- no more stands in the rings than fits, and the capacities are those of rings
 pub record HasRoom (l : Lists) : Type 0 where
   pub entries : length l.published + length l.pushed ≤ l.capacity
   pub completions : length l.completions + l.held ≤ l.completion_capacity
-  pub small : l.capacity ≤ 32768
-  pub completions_small : l.completion_capacity ≤ 65536
+  pub small : l.capacity ≤ MAX_ENTRIES
+  pub completions_small : l.completion_capacity ≤ MAX_COMPLETIONS
 
 pub record IsEmpty (l : Lists) : Type 0 where
   pub published : l.published ≡ []
@@ -103,3 +92,12 @@ pub record Reaps (c : Completion) (before after : Lists) : Type 0 where
 -- a position of 32 bits that went on by so many
 abbrev pub Advances : ℕ → ℕ → ℕ → Type 0
 Advances before by after = after % 2 ^ 32 ≡ (before + by) % 2 ^ 32
+
+-- what a word of the rings holds after a write, where they have it, and else 0
+abbrev pub where_kept : Bool → ℕ → ℕ
+where_kept true n = n
+where_kept false n = 0
+
+-- a counter of 32 bits after one more, which stays at its last value
+abbrev pub one_more : ℕ → ℕ
+one_more n = min (n + 1) 4294967295

@@ -4,11 +4,11 @@
 //! one side alone, as an end on a thread of its own, tells none; the clauses on what it moved
 //! hold for it all the same.
 
-ghost use Rattle.std.specs.Prelude.{◌≡◌, ◌+◌, ◌<◌, ◌≤◌, ◌↔◌, ◌⊎◌, ℕ, List, [], ◌∷◌, ◌++◌, length, Option, Some, None, IsOk, IsSome, OnOk, OnErr, IfSome, IfErr, MatchOption};
+ghost use Rattle.std.specs.Prelude.{◌≡◌, ◌+◌, ◌<◌, ◌≤◌, ◌↔◌, ◌⊎◌, ℕ, Bool, List, [], ◌∷◌, ◌++◌, length, Option, Some, None, IsOk, IsSome, OnOk, OnErr, IfSome, IfErr, MatchOption};
 ghost use Rattle.std.specs.Option.{option_to_list};
 ghost use Rattle.uring_base.specs.declared.events.Taken.{Taken};
 ghost use Rattle.uring_base.specs.declared.events.Completion.{Completion};
-ghost use Rattle.ring_traits.specs.Lists.{Lists, Moves, WhereTold, Becomes, Reaps, Advances, IsKept, small, offered, all_published, free_of, room_of, HasRoom};
+ghost use Rattle.ring_traits.specs.Lists.{Lists, Moves, WhereTold, Becomes, Reaps, Advances, IsKept, where_kept, one_more, small, offered, all_published, free_of, room_of, HasRoom};
 
 use uring_base::squeue::Entry;
 use uring_base::{Completion, Loan, Taken};
@@ -42,11 +42,16 @@ pub trait PartnerSide: Rings {
 
     ghost space: { Self → ℕ };
 
+    // Whether the rings have a word of flags and both counters; where they don't, these read as 0.
+    ghost has_words: { Bool };
+
     // The word of the submission ring's flags.
     ghost flags_word: { Self → ℕ };
 
     // How many entries couldn't be taken, and how many completions couldn't be posted.
-    ghost counters: { Self → ℕ × ℕ };
+    ghost dropped: { Self → ℕ };
+
+    ghost overflow: { Self → ℕ };
 
     // These words may differ between the first state and the second, and nothing else does.
     ghost marked: { Self → Self → Type 0 };
@@ -90,25 +95,27 @@ pub trait PartnerSide: Rings {
     fn sq_flags(&self) -> u32
         ensures { result ≡ flags_word self.now };
 
-    /// Sets these flags, where the ring has such a word; elsewhere it reads as 0.
+    /// Sets these flags, where the ring has such a word.
     fn set_sq_flags(&mut self, flags: u32)
         ensures marked { marked self.old self.new }
-        ensures word { (flags_word self.new ≡ flags) ⊎ (flags_word self.new ≡ 0) }
-        ensures counters { counters self.new ≡ counters self.old }
+        ensures word { flags_word self.new ≡ where_kept has_words flags }
+        ensures counters { (dropped self.new ≡ dropped self.old) × (overflow self.new ≡ overflow self.old) }
         ensures known { (ready self.new ≡ ready self.old) × (space self.new ≡ space self.old) };
 
     /// Counts an entry that couldn't be taken, where the ring has that counter. It stays at
     /// 4294967295 once there.
     fn add_dropped(&mut self)
         ensures marked { marked self.old self.new }
-        ensures word { flags_word self.new ≡ flags_word self.old }
+        ensures counter { dropped self.new ≡ where_kept has_words (one_more (dropped self.old)) }
+        ensures others { (flags_word self.new ≡ flags_word self.old) × (overflow self.new ≡ overflow self.old) }
         ensures known { (ready self.new ≡ ready self.old) × (space self.new ≡ space self.old) };
 
     /// Counts a completion that couldn't be posted, where the ring has that counter. It stays at
     /// 4294967295 once there.
     fn add_overflow(&mut self)
         ensures marked { marked self.old self.new }
-        ensures word { flags_word self.new ≡ flags_word self.old }
+        ensures counter { overflow self.new ≡ where_kept has_words (one_more (overflow self.old)) }
+        ensures others { (flags_word self.new ≡ flags_word self.old) × (dropped self.new ≡ dropped self.old) }
         ensures known { (ready self.new ≡ ready self.old) × (space self.new ≡ space self.old) };
 
     ghost moved_none: { (a : Self) → moved a [] [] a };
@@ -119,7 +126,7 @@ pub trait PartnerSide: Rings {
 
     ghost moved_places: { (a b : Self) (ts : List Taken) (cs : List Completion) → moved a ts cs b → (Self.offer_place b ≡ Self.offer_place a) × (Self.reap_place b ≡ Self.reap_place a) };
 
-    ghost moved_words: { (a b : Self) (ts : List Taken) (cs : List Completion) → moved a ts cs b → (flags_word b ≡ flags_word a) × (counters b ≡ counters a) };
+    ghost moved_words: { (a b : Self) (ts : List Taken) (cs : List Completion) → moved a ts cs b → (flags_word b ≡ flags_word a) × (dropped b ≡ dropped a) × (overflow b ≡ overflow a) };
 
     ghost marked_told: { (a b : Self) → marked a b → Self.lists b ≡ Self.lists a };
 

@@ -15,7 +15,8 @@ use Rattle.uring_ring.specs.contracts.submission_ring.SubmissionRing as submissi
 use Rattle.uring_ring.specs.contracts.completion_ring.CompletionRing as completion_ring
 use Rattle.ring_core.specs.Held.{Held}
 use Rattle.ring_core.specs.Slots.{held_of}
-use Rattle.ring_traits.specs.Lists.{Lists, lists_between, Moves, Uses, Advances}
+use Rattle.uring_ring.specs.Between.{lists_between}
+use Rattle.ring_traits.specs.Lists.{Lists, Moves, Uses, Advances}
 
 abbrev pub entries_in : {S C : Type 0} → IoUring S C → Held Taken
 entries_in ring = held_of ring.submissions.slots

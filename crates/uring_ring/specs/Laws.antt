@@ -9,7 +9,8 @@ use Rattle.uring_ring.specs.declared.completion_ring.CompletionRing.{CompletionR
 use Rattle.uring_ring.specs.declared.plain_side.PlainSide.{PlainSide}
 use Rattle.uring_ring.specs.PlainSide.{SideMoves, SideMarks, side_lists, side_entries, side_completions}
 use Rattle.uring_ring.specs.declared.io_uring.IoUring.{IoUring}
-use Rattle.ring_traits.specs.Lists.{Lists, lists_between, HasRoom, Moves, Uses, Advances}
+use Rattle.uring_ring.specs.Between.{lists_between}
+use Rattle.ring_traits.specs.Lists.{Lists, HasRoom, Moves, Uses, Advances}
 use Rattle.ring_core.specs.Slots.{held_of, held-fits}
 use Rattle.uring_ring.specs.IoUring.{lists_of, entries_in, completions_in, RingMoves, RingMarks, RingUses}
 

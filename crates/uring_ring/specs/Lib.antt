@@ -1,6 +1,7 @@
+pub mod Between
 pub mod IoUring
 pub mod Laws
-pub mod Lists
+pub use Rattle.ring_traits.specs.Lists as Lists
 pub mod PlainSide
 pub mod QueueLaws
 pub mod Queues

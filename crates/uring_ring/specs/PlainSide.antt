@@ -4,7 +4,8 @@ use Rattle.uring_base.specs.declared.events.Taken.{Taken}
 use Rattle.uring_base.specs.declared.events.Completion.{Completion}
 use Rattle.uring_ring.specs.declared.plain_side.PlainSide.{PlainSide}
 use Rattle.ring_core.specs.Held.{Held}
-use Rattle.ring_traits.specs.Lists.{Lists, lists_between, Moves}
+use Rattle.uring_ring.specs.Between.{lists_between}
+use Rattle.ring_traits.specs.Lists.{Lists, Moves}
 use Rattle.uring_ring.specs.IoUring.{Words}
 use Rattle.uring_ring.specs.Queues.{entries_at, completions_at, submission_words_at, completion_words_at}
 

@@ -5,7 +5,7 @@ ghost use Rattle.std.specs.Prelude.{◌≡◌, ◌≤◌, length};
 use crate::completion_queue::CompletionQueue;
 use crate::completion_ring::CompletionRing;
 use crate::pair::queues;
-use crate::sides::{PartnerSide, Rings, UserEnds};
+use ring_traits::{PartnerSide, Rings, UserEnds};
 use crate::submission_queue::SubmissionQueue;
 use crate::submission_ring::SubmissionRing;
 use ring_core::{End, SetupError};

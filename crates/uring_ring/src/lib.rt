@@ -8,7 +8,6 @@ mod io_uring;
 pub mod laws;
 mod pair;
 mod plain_side;
-mod sides;
 mod submission_queue;
 mod submission_ring;
 
@@ -18,7 +17,7 @@ pub use io_uring::IoUring;
 pub use plain_side::PlainSide;
 pub use ring_core::{Core, CoreAnswer, CoreAnswers, CoreStep, SetupError};
 pub use ring_setup::Parameters;
-pub use sides::{PartnerSide, Rings, UserEnds};
+pub use ring_traits::{PartnerSide, Rings, UserEnds};
 pub use submission_queue::{PushError, Refused, SubmissionQueue};
 
 #[cfg(test)]

@@ -3,7 +3,7 @@
 ghost use Rattle.std.specs.Prelude.{◌≡◌, ◌≤◌, length};
 
 use crate::completion_queue::CompletionQueue;
-use crate::sides::{PartnerSide, Rings};
+use ring_traits::{PartnerSide, Rings};
 use crate::submission_queue::SubmissionQueue;
 use uring_base::squeue::Entry;
 use uring_base::{Completion, Taken};
