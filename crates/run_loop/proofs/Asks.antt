@@ -13,7 +13,7 @@ use Rattle.uring_model.specs.declared.jobs.Link.{Link}
 use Rattle.uring_model.specs.declared.jobs.Link.TheVariants.{Free, Soft, Hard}
 use Rattle.uring_model.specs.Machine as machine
 use Rattle.uring_model.specs.Jobs as model
-use Rattle.uring_model.specs.Jobs.{asked, all_asked, buf_lent, op_asked, is_valid_job}
+use Rattle.uring_model.specs.Jobs.{model_job, model_jobs, buf_lent, model_op, is_valid_job}
 use Rattle.uring_model.specs.Replay.{last_unlinked}
 use Rattle.uring_model.specs.Partner.{job_of, unless_lacking}
 use Rattle.uring_model.specs.World.{is_job_operation, IsJobEntry}
@@ -43,7 +43,7 @@ job_with op buf drain link = record { op = op; buf = buf; drain = drain; link = 
 
 -- an entry asks its job, whatever its marks
 asks_marked : (j : ℕ) (kind : JobKind) (drain : Bool) (link : Link) → length (buf_lent kind) ≤ 2147483647 → IsInRange kind
-    → job_of (small (record (with_link link (with_drain drain (words_of j kind))) { user_data = j }) (loan_of j kind)) ≡ job_with (op_asked kind) (buf_lent kind) drain link
+    → job_of (small (record (with_link link (with_drain drain (words_of j kind))) { user_data = j }) (loan_of j kind)) ≡ job_with (model_op kind) (buf_lent kind) drain link
 asks_marked j Nop true Free h r = refl
 asks_marked j Nop true Soft h r = refl
 asks_marked j Nop true Hard h r = refl
@@ -81,15 +81,15 @@ asks_marked j (Cancel target) false Free h r = refl
 asks_marked j (Cancel target) false Soft h r = refl
 asks_marked j (Cancel target) false Hard h r = refl
 
-asks_one : (j : ℕ) (job : Job) → is_valid_job (asked job) ≡ true → IsInRange job.kind → job_of (small (offer_of j job).entry (offer_of j job).loan) ≡ asked job
+asks_one : (j : ℕ) (job : Job) → is_valid_job (model_job job) ≡ true → IsInRange job.kind → job_of (small (offer_of j job).entry (offer_of j job).loan) ≡ model_job job
 asks_one j job v r = asks_marked j job.kind job.drain job.link (valid_fits job v) r
 
-pub asks_all : (n : ℕ) (jobs : List Job) → AllValid jobs → AllInRange jobs → map job_of (all_taken (offers_from n jobs)) ≡ last_unlinked (all_asked jobs)
+pub asks_all : (n : ℕ) (jobs : List Job) → AllValid jobs → AllInRange jobs → map job_of (all_taken (offers_from n jobs)) ≡ last_unlinked (model_jobs jobs)
 asks_all n [] v r = refl
 asks_all n (job ∷ []) v r = ap (λ x. x ∷ []) (asks_marked n job.kind job.drain Free (valid_fits job v.0) r.0)
 asks_all n (job ∷ next ∷ jobs) v r = λ i. asks_one n job v.0 r.0 i ∷ asks_all (n + 1) (next ∷ jobs) v.1 r.1 i
 
-six_kind : (kind : JobKind) → is_job_operation (op_asked kind) ≡ true
+six_kind : (kind : JobKind) → is_job_operation (model_op kind) ≡ true
 six_kind Nop = refl
 six_kind (Read file offset buf) = refl
 six_kind (Write file offset buf) = refl
@@ -173,7 +173,7 @@ is_asked Success op = is_sync op
 abbrev pub asks : (ℕ → Reply) → Taken → Bool
 asks replies t = is_lent (replies t.entry.user_data) t.loan && is_asked (replies t.entry.user_data) (job_of t).op
 
-asks_kind : (n : ℕ) (kind : JobKind) → (is_lent (reply_for kind) (loan_of n kind) && is_asked (reply_for kind) (op_asked kind)) ≡ true
+asks_kind : (n : ℕ) (kind : JobKind) → (is_lent (reply_for kind) (loan_of n kind) && is_asked (reply_for kind) (model_op kind)) ≡ true
 asks_kind n Nop = refl
 asks_kind n (Read file offset buf) = refl
 asks_kind n (Write file offset buf) = refl
@@ -181,7 +181,7 @@ asks_kind n (Fsync file) = refl
 asks_kind n (Ftruncate file len) = refl
 asks_kind n (Cancel job) = refl
 
-asks_entry : (n : ℕ) (kind : JobKind) (reply : Reply) (op : machine.Op) → reply ≡ reply_for kind → op ≡ op_asked kind → (is_lent reply (loan_of n kind) && is_asked reply op) ≡ true
+asks_entry : (n : ℕ) (kind : JobKind) (reply : Reply) (op : machine.Op) → reply ≡ reply_for kind → op ≡ model_op kind → (is_lent reply (loan_of n kind) && is_asked reply op) ≡ true
 asks_entry n kind reply op e f = (λ i. is_lent (e i) (loan_of n kind) && is_asked (e i) (f i)) ∙ asks_kind n kind
 
 pub asks_list : (replies : ℕ → Reply) (n : ℕ) (jobs : List Job) → Replies replies n jobs → AllValid jobs → AllInRange jobs → AllByRecursion (λ t. asks replies t ≡ true) (all_taken (offers_from n jobs))

@@ -5,7 +5,7 @@ use Rattle.std.proofs.lemmas.Bool.Decides.{nat_tests}
 use Rattle.uring_model.specs.declared.jobs.Job.{Job}
 use Rattle.uring_model.specs.declared.jobs.JobKind.{JobKind}
 use Rattle.uring_model.specs.declared.jobs.JobKind.TheVariants.{Nop, Read, Write, Fsync, Ftruncate, Cancel}
-use Rattle.uring_model.specs.Jobs.{asked, buf_lent, is_valid_job, is_valid_at}
+use Rattle.uring_model.specs.Jobs.{model_job, buf_lent, is_valid_job, is_valid_at}
 use Rattle.run_loop.specs.Entries.{offers_from, AllValid, IsInRange, AllInRange, first_bad}
 
 and_first : (a b : Bool) → (a && b) ≡ true → a ≡ true
@@ -15,29 +15,29 @@ and_first false b e = e
 at_fits : (offset : ℕ) (buf : List ℕ) → is_valid_at offset buf ≡ true → length buf ≤ 2147483647
 at_fits offset buf e = let h : nat_le (length buf) 2147483647 ≡ true = and_first _ _ e in grind (arith, nat_tests)
 
-kind_fits : (kind : JobKind) (job : Job) → job.kind ≡ kind → is_valid_job (asked job) ≡ true → length (buf_lent kind) ≤ 2147483647
+kind_fits : (kind : JobKind) (job : Job) → job.kind ≡ kind → is_valid_job (model_job job) ≡ true → length (buf_lent kind) ≤ 2147483647
 kind_fits Nop job k e = omega arith
-kind_fits (Read file offset buf) job k e = at_fits offset buf (subst (λ x. is_valid_job (asked (record job { kind = x })) ≡ true) k e)
-kind_fits (Write file offset buf) job k e = at_fits offset buf (subst (λ x. is_valid_job (asked (record job { kind = x })) ≡ true) k e)
+kind_fits (Read file offset buf) job k e = at_fits offset buf (subst (λ x. is_valid_job (model_job (record job { kind = x })) ≡ true) k e)
+kind_fits (Write file offset buf) job k e = at_fits offset buf (subst (λ x. is_valid_job (model_job (record job { kind = x })) ≡ true) k e)
 kind_fits (Fsync file) job k e = omega arith
 kind_fits (Ftruncate file len) job k e = omega arith
 kind_fits (Cancel j) job k e = omega arith
 
 -- a valid job's buffer is short enough for a length word
-pub valid_fits : (job : Job) → is_valid_job (asked job) ≡ true → length (buf_lent job.kind) ≤ 2147483647
+pub valid_fits : (job : Job) → is_valid_job (model_job job) ≡ true → length (buf_lent job.kind) ≤ 2147483647
 valid_fits job e = kind_fits job.kind job refl e
 
 pub none_bad : (n : ℕ) (jobs : List Job) → first_bad n jobs ≡ None → AllValid jobs
 none_bad n [] e = tt
-none_bad n (job ∷ jobs) e = elim (is_valid_job (asked job)) as (λ b. cond b (first_bad (n + 1) jobs) (Some n) ≡ None → (b ≡ true) × AllValid jobs) [
+none_bad n (job ∷ jobs) e = elim (is_valid_job (model_job job)) as (λ b. cond b (first_bad (n + 1) jobs) (Some n) ≡ None → (b ≡ true) × AllValid jobs) [
   | true ↦ λ h. (refl, none_bad (n + 1) jobs h)
   | false ↦ λ h. let bad : Some n ≡ None = h in cc
 ] e
 
-pub bad_next : (n : ℕ) (job : Job) (jobs : List Job) → is_valid_job (asked job) ≡ true → first_bad n (job ∷ jobs) ≡ first_bad (n + 1) jobs
+pub bad_next : (n : ℕ) (job : Job) (jobs : List Job) → is_valid_job (model_job job) ≡ true → first_bad n (job ∷ jobs) ≡ first_bad (n + 1) jobs
 bad_next n job jobs e = rw e refl
 
-pub bad_here : (n : ℕ) (job : Job) (jobs : List Job) → is_valid_job (asked job) ≡ false → first_bad n (job ∷ jobs) ≡ Some n
+pub bad_here : (n : ℕ) (job : Job) (jobs : List Job) → is_valid_job (model_job job) ≡ false → first_bad n (job ∷ jobs) ≡ Some n
 bad_here n job jobs e = rw e refl
 
 -- behind the end no job is bad
@@ -63,10 +63,10 @@ drop_at (z ∷ xs) zero x h e = ap (λ y. y ∷ xs) (sym e)
 drop_at (z ∷ xs) (suc i) x h e = drop_at xs i x (omega arith) e ∙ ap (λ n. x ∷ drop n (z ∷ xs)) (let n : suc (i + 1) ≡ suc i + 1 = omega arith in n)
 
 -- one more job that is valid and in range
-pub bad_step : (jobs : List Job) (i : ℕ) (job : Job) → i < length jobs → job ≡ get_or jobs i job → is_valid_job (asked job) ≡ true → first_bad i (drop i jobs) ≡ first_bad (i + 1) (drop (i + 1) jobs)
+pub bad_step : (jobs : List Job) (i : ℕ) (job : Job) → i < length jobs → job ≡ get_or jobs i job → is_valid_job (model_job job) ≡ true → first_bad i (drop i jobs) ≡ first_bad (i + 1) (drop (i + 1) jobs)
 bad_step jobs i job h e v = ap (first_bad i) (drop_at jobs i job h e) ∙ bad_next i job (drop (i + 1) jobs) v
 
-pub bad_found : (jobs : List Job) (i : ℕ) (job : Job) → i < length jobs → job ≡ get_or jobs i job → is_valid_job (asked job) ≡ false → first_bad i (drop i jobs) ≡ Some i
+pub bad_found : (jobs : List Job) (i : ℕ) (job : Job) → i < length jobs → job ≡ get_or jobs i job → is_valid_job (model_job job) ≡ false → first_bad i (drop i jobs) ≡ Some i
 bad_found jobs i job h e v = ap (first_bad i) (drop_at jobs i job h e) ∙ bad_here i job (drop (i + 1) jobs) v
 
 pub range_step : (jobs : List Job) (i : ℕ) (job : Job) → job ≡ get_or jobs i job → IsInRange job.kind → ((k : ℕ) (x : Job) → k < i → slice_get jobs k ≡ Some x → IsInRange x.kind)

@@ -14,7 +14,7 @@ use Rattle.uring_model.specs.declared.jobs.Job.{Job}
 use Rattle.uring_model.specs.declared.jobs.JobKind.{JobKind}
 use Rattle.uring_model.specs.declared.jobs.JobKind.TheVariants.{Nop, Read, Write, Fsync, Ftruncate, Cancel}
 use Rattle.uring_model.specs.declared.jobs.Outcome.{Outcome}
-use Rattle.uring_model.specs.Jobs.{asked, all_asked, moves_bytes, op_asked}
+use Rattle.uring_model.specs.Jobs.{model_job, model_jobs, moves_bytes, model_op}
 use Rattle.uring_model.specs.Jobs as model
 use Rattle.uring_model.specs.Replay.{Result}
 use Rattle.uring_model.specs.Moves.{Move, Turned, Took, Posted, posted, log_of}
@@ -210,7 +210,7 @@ lent_whole : (reply : Reply) (l : Option Loan) → is_lent reply l ≡ true → 
 lent_whole reply None h = lent_none (lends reply) h
 lent_whole reply (Some l) h = let p = and_both (lends reply) (nat_eq l.from 0) h in rw p.0 (ap Some (sym (whole_part l.from l.buf (same_number l.from 0 p.1))))
 
-lends_moved : (kind : JobKind) → lends (reply_for kind) ≡ moves_bytes (op_asked kind)
+lends_moved : (kind : JobKind) → lends (reply_for kind) ≡ moves_bytes (model_op kind)
 lends_moved Nop = refl
 lends_moved (Read file offset buf) = refl
 lends_moved (Write file offset buf) = refl
@@ -219,11 +219,11 @@ lends_moved (Ftruncate file len) = refl
 lends_moved (Cancel job) = refl
 
 -- one job's outcome, by the log and by the table
-same_outcome : (job : Job) (reply : Reply) (e : Ending) → reply ≡ reply_for job.kind → is_told reply e ≡ true → outcome_from (reply_for job.kind) e ≡ outcome_told (asked job) (told e)
+same_outcome : (job : Job) (reply : Reply) (e : Ending) → reply ≡ reply_for job.kind → is_told reply e ≡ true → outcome_from (reply_for job.kind) e ≡ outcome_told (model_job job) (told e)
 same_outcome job reply e f h =
     let p = and_both (is_lent reply e.loan) (is_heard reply e.result) h in
     let result : heard (reply_for job.kind) e.result ≡ e.result = heard_same (reply_for job.kind) e.result (ap (λ r. is_heard r e.result) (sym f) ∙ p.1) in
-    let buf : loan_buf e.loan ≡ cond (moves_bytes (op_asked job.kind)) (Some (part_of e.loan)) None = lent_whole (reply_for job.kind) e.loan (ap (λ r. is_lent r e.loan) (sym f) ∙ p.0) ∙ ap (λ b. cond b (Some (part_of e.loan)) None) (lends_moved job.kind) in
+    let buf : loan_buf e.loan ≡ cond (moves_bytes (model_op job.kind)) (Some (part_of e.loan)) None = lent_whole (reply_for job.kind) e.loan (ap (λ r. is_lent r e.loan) (sym f) ∙ p.0) ∙ ap (λ b. cond b (Some (part_of e.loan)) None) (lends_moved job.kind) in
     λ i. record { result = result i; buf = buf i }
 
 told_if : (b : Bool) (replies : ℕ → Reply) (n u : ℕ) (x e : Ending) (o : Option Ending) → (b ≡ true → u ≡ n) → is_told (replies u) x ≡ true → (o ≡ Some e → is_told (replies n) e ≡ true) → cond b (Some x) o ≡ Some e → is_told (replies n) e ≡ true
@@ -236,17 +236,17 @@ final_told replies n (c ∷ cs) e h q =
     told_if (is_final c.flags && nat_eq c.user_data n) replies n c.user_data (record { result = c.result; loan = c.loan }) e (final_of n cs)
     (λ b. same_number c.user_data n (and_both (is_final c.flags) (nat_eq c.user_data n) b).1) h.0 (λ r. final_told replies n cs e h.1 r) q
 
-told_one : (job : Job) (o : Option Ending) (rest : List model.Job) (t : List (Option Result)) → ((e : Ending) → o ≡ Some e → outcome_from (reply_for job.kind) e ≡ outcome_told (asked job) (told e))
-    → outcomes_told (asked job ∷ rest) (option_map told o ∷ t) ≡ option_map (outcome_from (reply_for job.kind)) o ∷ outcomes_told rest t
+told_one : (job : Job) (o : Option Ending) (rest : List model.Job) (t : List (Option Result)) → ((e : Ending) → o ≡ Some e → outcome_from (reply_for job.kind) e ≡ outcome_told (model_job job) (told e))
+    → outcomes_told (model_job job ∷ rest) (option_map told o ∷ t) ≡ option_map (outcome_from (reply_for job.kind)) o ∷ outcomes_told rest t
 told_one job None rest t f = refl
 told_one job (Some e) rest t f = λ i. Some (sym (f e refl) i) ∷ outcomes_told rest t
 
 pub told_outcomes : (replies : ℕ → Reply) (n : ℕ) (jobs : List Job) (ms : List Move) → Replies replies n jobs → AllByRecursion (λ c. answers replies c ≡ true) (posted ms)
-    → outcomes_told (all_asked jobs) (results_from n (offers_from n jobs) (posted ms)) ≡ outcomes_from n jobs (log_of ms)
+    → outcomes_told (model_jobs jobs) (results_from n (offers_from n jobs) (posted ms)) ≡ outcomes_from n jobs (log_of ms)
 told_outcomes replies n [] ms f h = refl
 told_outcomes replies n (job ∷ []) ms f h =
     told_one job (final_of n (posted ms)) [] [] (λ e q. same_outcome job (replies n) e (replies_here replies n _ (f 0)) (final_told replies n (posted ms) e h q))
     ∙ ap (λ o. option_map (outcome_from (reply_for job.kind)) o ∷ []) (sym (same_final n ms))
 told_outcomes replies n (job ∷ next ∷ jobs) ms f h =
-    told_one job (final_of n (posted ms)) (all_asked (next ∷ jobs)) (results_from (n + 1) (offers_from (n + 1) (next ∷ jobs)) (posted ms)) (λ e q. same_outcome job (replies n) e (replies_here replies n _ (f 0)) (final_told replies n (posted ms) e h q))
+    told_one job (final_of n (posted ms)) (model_jobs (next ∷ jobs)) (results_from (n + 1) (offers_from (n + 1) (next ∷ jobs)) (posted ms)) (λ e q. same_outcome job (replies n) e (replies_here replies n _ (f 0)) (final_told replies n (posted ms) e h q))
     ∙ (λ i. option_map (outcome_from (reply_for job.kind)) (sym (same_final n ms) i) ∷ told_outcomes replies (n + 1) (next ∷ jobs) ms (replies_next replies n job next jobs f) h i)

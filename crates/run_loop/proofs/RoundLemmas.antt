@@ -152,7 +152,7 @@ module _ {W : Type 0} (mach : schedule.Machine W) {P R : Type 0} (log : P → Op
       fits = subst (λ o. IfSome o HasRoom) at_is (fits t.submitted.shown);
       logs = t.submitted.enters.made.logs;
       states = t.submitted.enters.made.states;
-      asked = t.submitted.published;
+      to_submit = t.submitted.published;
       enough = let n : t.submitted.published ≡ length (offered_to a ts).published = subst (λ o. IfSome o (λ l. t.submitted.published ≡ length l.published)) at_is t.submitted.counted in omega (arith, n);
       call = subst (λ o. IsCall entered t.submitted.published o moves) at_is t.submitted.enters.call;
       whole = whole_by t.answer (Some (offered_to a ts)) (subst (λ o. OnOk t.answer (IsWholeTurn mach (state old) o moves)) at_is t.submitted.enters.whole);

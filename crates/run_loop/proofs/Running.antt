@@ -85,9 +85,9 @@ pub record Called (n k started capacity : ℕ) (ms : List Move) : Type 0 where
   pub all : k + p ≡ started
   pub full : (p ≡ capacity) ⊎ (k + p ≡ n)
 
-called_turn : (asked : ℕ) (b l : Lists) (at : Lists) (ts todo todo' : List Taken) (ms : List Move) (n k started started' : ℕ) → b ≡ l → at ≡ all_published (pushed_more ts b) → HasRoom at → l.pushed ≡ [] → todo ≡ ts ++ todo' → (todo' ≡ []) ⊎ (free_of (pushed_more ts b) ≡ 0)
-    → k + length (l.published ++ todo) ≡ n → started ≡ k + length l.published → started' + length todo' ≡ started + length todo → length at.published ≤ asked → IsTurn asked (Some at) ms → Called n k started' l.capacity ms
-called_turn asked b l at ts todo todo' ms n k started started' eb ea room none split full here st count enough t =
+called_turn : (to_submit : ℕ) (b l : Lists) (at : Lists) (ts todo todo' : List Taken) (ms : List Move) (n k started started' : ℕ) → b ≡ l → at ≡ all_published (pushed_more ts b) → HasRoom at → l.pushed ≡ [] → todo ≡ ts ++ todo' → (todo' ≡ []) ⊎ (free_of (pushed_more ts b) ≡ 0)
+    → k + length (l.published ++ todo) ≡ n → started ≡ k + length l.published → started' + length todo' ≡ started + length todo → length at.published ≤ to_submit → IsTurn to_submit (Some at) ms → Called n k started' l.capacity ms
+called_turn to_submit b l at ts todo todo' ms n k started started' eb ea room none split full here st count enough t =
     let ab : at ≡ all_published (pushed_more ts l) = ea ∙ ap (λ x. all_published (pushed_more ts x)) eb in
     let pub_at : length at.published ≡ length l.published + length ts = ap (λ x. length x.published) ab ∙ length-append l.published (l.pushed ++ ts) ∙ ap (λ x. length l.published + length (x ++ ts)) none in
     let cap : at.capacity ≡ l.capacity = ap (λ x. x.capacity) ab in
@@ -165,12 +165,12 @@ counts offers ms published todo e =
     ap (λ x. length (took ms) + x) (sym (length-append published todo))
     ∙ sym (length-append (took ms) (published ++ todo)) ∙ ap length e ∙ entries-length offers
 
-called_or : (asked : ℕ) (entered : Bool) (b l at : Lists) (ts todo todo' : List Taken) (ms : List Move) (n k started started' : ℕ) → b ≡ l → at ≡ all_published (pushed_more ts b) → HasRoom at → l.pushed ≡ [] → todo ≡ ts ++ todo' → (todo' ≡ []) ⊎ (free_of (pushed_more ts b) ≡ 0)
-    → k + length (l.published ++ todo) ≡ n → started ≡ k + length l.published → started' + length todo' ≡ started + length todo → length at.published ≤ asked → IsCall entered asked (Some at) ms → (ms ≡ []) ⊎ Called n k started' l.capacity ms
-called_or asked true b l at ts todo todo' ms n k started started' eb ea room none split full here st count enough t = inr (called_turn asked b l at ts todo todo' ms n k started started' eb ea room none split full here st count enough t)
-called_or asked false b l at ts todo todo' ms n k started started' eb ea room none split full here st count enough t = elim t [
+called_or : (to_submit : ℕ) (entered : Bool) (b l at : Lists) (ts todo todo' : List Taken) (ms : List Move) (n k started started' : ℕ) → b ≡ l → at ≡ all_published (pushed_more ts b) → HasRoom at → l.pushed ≡ [] → todo ≡ ts ++ todo' → (todo' ≡ []) ⊎ (free_of (pushed_more ts b) ≡ 0)
+    → k + length (l.published ++ todo) ≡ n → started ≡ k + length l.published → started' + length todo' ≡ started + length todo → length at.published ≤ to_submit → IsCall entered to_submit (Some at) ms → (ms ≡ []) ⊎ Called n k started' l.capacity ms
+called_or to_submit true b l at ts todo todo' ms n k started started' eb ea room none split full here st count enough t = inr (called_turn to_submit b l at ts todo todo' ms n k started started' eb ea room none split full here st count enough t)
+called_or to_submit false b l at ts todo todo' ms n k started started' eb ea room none split full here st count enough t = elim t [
   | inl e ↦ inl e
-  | inr u ↦ inr (called_turn asked b l at ts todo todo' ms n k started started' eb ea room none split full here st count enough u)
+  | inr u ↦ inr (called_turn to_submit b l at ts todo todo' ms n k started started' eb ea room none split full here st count enough u)
 ]
 
 call_busy : (c n k started : ℕ) (ms : List Move) → (ms ≡ []) ⊎ Called n k started c ms → IsBusy c n k (journal_of (log_of ms))
@@ -225,12 +225,12 @@ next_entries mach view Plain log state lists kept first now new from to room tod
 next_called : {W : Type 0} (mach : schedule.Machine W) (view : W → Files) (Plain : W → Type 0) {P R : Type 0} (log : P → Option (List LogEvent)) (state : P → Option (schedule.State W)) (lists : R → Option Lists) (kept : Completion → Completion) (first now new : P) (from to : R) (room : ℕ) (todo todo' : List Taken) (started started' : ℕ) (slots slots' : List Slot) (offers : List Offer) (capacity idle quiet : ℕ) (answer : Result Bool RunFault) (x : Next mach view Plain log state lists kept first now new from to room todo todo' started started' slots slots' offers capacity idle quiet answer) → (x.round.ms ≡ []) ⊎ Called (length offers) (length (took x.run.ms)) started' x.run.l.capacity x.round.ms
 next_called mach view Plain log state lists kept first now new from to room todo todo' started started' slots slots' offers capacity idle quiet answer x =
     let here : length (took x.run.ms) + length (x.run.l.published ++ todo) ≡ length offers = ap (λ y. length (took x.run.ms) + y) (length-append x.run.l.published todo) ∙ counts offers x.run.ms x.run.l.published todo x.run.entries in
-    called_or x.round.asked x.round.entered x.round.before x.run.l x.round.at x.round.ts todo todo' x.round.ms (length offers) (length (took x.run.ms)) started started' (same_lists mach view Plain log state lists kept first now new from to room todo todo' started started' slots slots' offers capacity idle quiet answer x) x.round.published x.round.fits x.run.calm.pushed x.round.offered x.round.full here x.run.started_is x.count x.round.enough x.round.call
+    called_or x.round.to_submit x.round.entered x.round.before x.run.l x.round.at x.round.ts todo todo' x.round.ms (length offers) (length (took x.run.ms)) started started' (same_lists mach view Plain log state lists kept first now new from to room todo todo' started started' slots slots' offers capacity idle quiet answer x) x.round.published x.round.fits x.run.calm.pushed x.round.offered x.round.full here x.run.started_is x.count x.round.enough x.round.call
 
 next_entered : {W : Type 0} (mach : schedule.Machine W) (view : W → Files) (Plain : W → Type 0) {P R : Type 0} (log : P → Option (List LogEvent)) (state : P → Option (schedule.State W)) (lists : R → Option Lists) (kept : Completion → Completion) (first now new : P) (from to : R) (room : ℕ) (todo todo' : List Taken) (started started' : ℕ) (slots slots' : List Slot) (offers : List Offer) (capacity idle quiet : ℕ) (answer : Result Bool RunFault) (x : Next mach view Plain log state lists kept first now new from to room todo todo' started started' slots slots' offers capacity idle quiet answer) → x.round.entered ≡ true → Called (length offers) (length (took x.run.ms)) started' x.run.l.capacity x.round.ms
 next_entered mach view Plain log state lists kept first now new from to room todo todo' started started' slots slots' offers capacity idle quiet answer x e =
     let here : length (took x.run.ms) + length (x.run.l.published ++ todo) ≡ length offers = ap (λ y. length (took x.run.ms) + y) (length-append x.run.l.published todo) ∙ counts offers x.run.ms x.run.l.published todo x.run.entries in
-    called_turn x.round.asked x.round.before x.run.l x.round.at x.round.ts todo todo' x.round.ms (length offers) (length (took x.run.ms)) started started' (same_lists mach view Plain log state lists kept first now new from to room todo todo' started started' slots slots' offers capacity idle quiet answer x) x.round.published x.round.fits x.run.calm.pushed x.round.offered x.round.full here x.run.started_is x.count x.round.enough (subst (λ b. IsCall b x.round.asked (Some x.round.at) x.round.ms) e x.round.call)
+    called_turn x.round.to_submit x.round.before x.run.l x.round.at x.round.ts todo todo' x.round.ms (length offers) (length (took x.run.ms)) started started' (same_lists mach view Plain log state lists kept first now new from to room todo todo' started started' slots slots' offers capacity idle quiet answer x) x.round.published x.round.fits x.run.calm.pushed x.round.offered x.round.full here x.run.started_is x.count x.round.enough (subst (λ b. IsCall b x.round.to_submit (Some x.round.at) x.round.ms) e x.round.call)
 
 next_busy : {W : Type 0} (mach : schedule.Machine W) (view : W → Files) (Plain : W → Type 0) {P R : Type 0} (log : P → Option (List LogEvent)) (state : P → Option (schedule.State W)) (lists : R → Option Lists) (kept : Completion → Completion) (first now new : P) (from to : R) (room : ℕ) (todo todo' : List Taken) (started started' : ℕ) (slots slots' : List Slot) (offers : List Offer) (capacity idle quiet : ℕ) (answer : Result Bool RunFault) (x : Next mach view Plain log state lists kept first now new from to room todo todo' started started' slots slots' offers capacity idle quiet answer) → IsBusy capacity (length offers) 0 (journal_of (log_of (x.run.ms ++ x.round.ms)))
 next_busy mach view Plain log state lists kept first now new from to room todo todo' started started' slots slots' offers capacity idle quiet answer x =

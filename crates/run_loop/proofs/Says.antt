@@ -11,7 +11,7 @@ use Rattle.uring_model.specs.declared.jobs.Outcome.{Outcome}
 use Rattle.uring_model.specs.declared.jobs.Report.{Report}
 use Rattle.uring_model.specs.declared.jobs.RunFault.{RunFault}
 use Rattle.uring_model.specs.declared.jobs.RunFault.TheVariants as faults
-use Rattle.uring_model.specs.Jobs.{asked, all_asked}
+use Rattle.uring_model.specs.Jobs.{model_job, model_jobs}
 use Rattle.std.proofs.lemmas.List.{length-map}
 use Rattle.uring_model.specs.Replay.{last_unlinked, IsBusy, IsWhole, table}
 use Rattle.uring_model.specs.Moves.{Move, took, posted, event_of, journal_of, log_of, IsLogged}
@@ -73,7 +73,7 @@ abbrev replies_at : List Job → ℕ → Reply
 replies_at jobs = reply_in (offers_from 0 jobs)
 
 pub record FromIdle (jobs : List Job) (a b : filed.PartnerState) (ms : List Move) : Type 0 where
-  pub explained : Explained (all_asked jobs) a.world a.choices ms b
+  pub explained : Explained (model_jobs jobs) a.world a.choices ms b
   pub steps : filed.Steps false (idle a.world a.choices) ms b
   pub honest : first_strange (lends_at jobs) nothing_seen (log_of ms) ≡ None
   pub told : AllByRecursion (λ c. answers (replies_at jobs) c ≡ true) (posted ms)
@@ -89,7 +89,7 @@ pub from_idle : {W : Type 0} (mach : schedule.Machine W) (view : W → Files) (P
 from_idle mach view Plain laws log state old new jobs capacity bound d valid range a told rests =
     let served = served_some mach a d.moves (state new) (subst (λ o. schedule.IsServed mach o d.moves (state new)) told d.states) in
     let b = served.0 in
-    let same_jobs : map job_of (took d.moves ++ d.ahead) ≡ last_unlinked (all_asked jobs) = ap (map job_of) d.entries ∙ asks_all 0 jobs valid range in
+    let same_jobs : map job_of (took d.moves ++ d.ahead) ≡ last_unlinked (model_jobs jobs) = ap (map job_of) d.entries ∙ asks_all 0 jobs valid range in
     let numbered : Numbered 0 (took d.moves ++ d.ahead) = subst (Numbered 0) (sym d.entries) (numbered_all 0 jobs) in
     let six : AllByRecursion IsJobEntry (took d.moves) = six_front (took d.moves) d.ahead (subst (AllByRecursion IsJobEntry) (sym d.entries) (six_all 0 jobs valid range)) in
     let files = laws.world.steps_seen true a b d.moves (record { world = rests.plain; pending = subst (AllByRecursion (λ i. IsJobEntry i.taken)) (sym rests.pending) tt }) six served.2 in
@@ -97,19 +97,19 @@ from_idle mach view Plain laws log state old new jobs capacity bound d valid ran
     let resting : filed.IsIdle (viewed view a) = record { pending = rests.pending; tail = rests.tail } in
     let steps = laws.idle_moves (viewed view a) (viewed view b) d.moves resting calls in
     let own : AllByRecursion (HasOwnLoan (lends_at jobs)) (took d.moves ++ d.ahead) = subst (AllByRecursion (HasOwnLoan (lends_at jobs))) (sym d.entries) (own_all (replies_at jobs) (lends_at jobs) (λ j. refl) 0 jobs (replies_first jobs)) in
-    let asked : AllByRecursion (λ t. asks (replies_at jobs) t ≡ true) (took d.moves ++ d.ahead) = subst (AllByRecursion (λ t. asks (replies_at jobs) t ≡ true)) (sym d.entries) (asks_list (replies_at jobs) 0 jobs (replies_first jobs) valid range) in
-    let explained = laws.explained (all_asked jobs) d.moves d.ahead (viewed view a) (viewed view b) resting same_jobs numbered calls in (
+    let entries_ask : AllByRecursion (λ t. asks (replies_at jobs) t ≡ true) (took d.moves ++ d.ahead) = subst (AllByRecursion (λ t. asks (replies_at jobs) t ≡ true)) (sym d.entries) (asks_list (replies_at jobs) 0 jobs (replies_first jobs) valid range) in
+    let explained = laws.explained (model_jobs jobs) d.moves d.ahead (viewed view a) (viewed view b) resting same_jobs numbered calls in (
       b,
       served.1,
       record {
         explained = explained;
         steps = steps;
-        honest = laws.honest (lends_at jobs) (all_asked jobs) (view a.world) a.choices d.moves d.ahead (viewed view b) same_jobs numbered steps (All-from_recursion (HasOwnLoan (lends_at jobs)) (took d.moves) (front_of (HasOwnLoan (lends_at jobs)) (took d.moves) d.ahead own)) d.within;
+        honest = laws.honest (lends_at jobs) (model_jobs jobs) (view a.world) a.choices d.moves d.ahead (viewed view b) same_jobs numbered steps (All-from_recursion (HasOwnLoan (lends_at jobs)) (took d.moves) (front_of (HasOwnLoan (lends_at jobs)) (took d.moves) d.ahead own)) d.within;
         told =
             recursion_from_All (λ c. answers (replies_at jobs) c ≡ true) (posted d.moves)
             (laws.answers (asks (replies_at jobs)) (answers (replies_at jobs)) (view a.world) a.choices d.moves (viewed view b) (answered (replies_at jobs)) steps
-            (All-from_recursion (λ t. asks (replies_at jobs) t ≡ true) (took d.moves) (front_of (λ t. asks (replies_at jobs) t ≡ true) (took d.moves) d.ahead asked)));
-        restful = λ w. laws.restful (all_asked jobs) (view a.world) a.choices d.moves d.ahead (viewed view b) explained.state same_jobs numbered steps explained.replays w;
+            (All-from_recursion (λ t. asks (replies_at jobs) t ≡ true) (took d.moves) (front_of (λ t. asks (replies_at jobs) t ≡ true) (took d.moves) d.ahead entries_ask)));
+        restful = λ w. laws.restful (model_jobs jobs) (view a.world) a.choices d.moves d.ahead (viewed view b) explained.state same_jobs numbered steps explained.replays w;
       },
       files.1.world,
     )
@@ -127,7 +127,7 @@ stranger_not (faults.BadJob n) jobs bound log g h = refl
 some_told : {A : Type 0} (o : Option A) (a : A) (P : A → Type 0) → IfSome o P → o ≡ Some a → P a
 some_told o a P h e = subst (λ x. IfSome x P) e h
 
-fault_explains : {W : Type 0} (view : W → Files) (Plain : W → Type 0) (jobs : List Job) (a b : schedule.State W) (ms : List Move) (e : RunFault) → FromIdle jobs (viewed view a) (viewed view b) ms → is_stranger_fault e ≡ false → is_stall e ≡ false → Explains view Plain (all_asked jobs) a ms b (Err e)
+fault_explains : {W : Type 0} (view : W → Files) (Plain : W → Type 0) (jobs : List Job) (a b : schedule.State W) (ms : List Move) (e : RunFault) → FromIdle jobs (viewed view a) (viewed view b) ms → is_stranger_fault e ≡ false → is_stall e ≡ false → Explains view Plain (model_jobs jobs) a ms b (Err e)
 fault_explains view Plain jobs a b ms e f honest prompt = record {
   end = f.explained.state;
   replays = f.explained.replays;
@@ -153,8 +153,8 @@ says_fault mach view Plain laws log state old new jobs capacity bound e valid ra
 
 whole_results : (jobs : List Job) (a b : filed.PartnerState) (ms : List Move) → (f : FromIdle jobs a b ms) → table f.explained.state ≡ results_from 0 (offers_from 0 jobs) (posted ms)
 whole_results jobs a b ms f =
-    let n : length (all_asked jobs) ≡ length (offers_from 0 jobs) = length-map jobs asked ∙ sym (offers_count 0 jobs) in
-    let first : replicate (length (all_asked jobs)) None ≡ results_from 0 (offers_from 0 jobs) [] = ap (λ k. replicate k None) n ∙ sym (results_first 0 (offers_from 0 jobs)) in
+    let n : length (model_jobs jobs) ≡ length (offers_from 0 jobs) = length-map jobs model_job ∙ sym (offers_count 0 jobs) in
+    let first : replicate (length (model_jobs jobs)) None ≡ results_from 0 (offers_from 0 jobs) [] = ap (λ k. replicate k None) n ∙ sym (results_first 0 (offers_from 0 jobs)) in
     f.explained.outcomes
     ∙ ap (λ t. record_all t (posted ms)) first
     ∙ record_results (offers_from 0 jobs) [] (posted ms) (steps_final false (idle a.world a.choices) b ms f.steps) (subst (λ t. AllFresh t (posted ms)) first f.explained.fresh)
@@ -166,7 +166,7 @@ answered_by jobs ms os honest slots = record {
 }
 
 whole_explains : {W : Type 0} (mach : schedule.Machine W) (view : W → Files) (Plain : W → Type 0) (laws : ModelLaws mach view Plain) (jobs : List Job) (a b : schedule.State W) (ms : List Move) (report : Report) → FromIdle jobs (viewed view a) (viewed view b) ms → Plain b.world → count_open (slots_from 0 (offers_from 0 jobs) (posted ms)) ≡ 0 → map (λ o. Some o) report.outcomes.items ≡ outcomes_from 0 jobs (log_of ms) → turns ms ≤ length jobs
-    → Explains view Plain (all_asked jobs) a ms b (Ok report)
+    → Explains view Plain (model_jobs jobs) a ms b (Ok report)
 whole_explains mach view Plain laws jobs a b ms report f plain none answers few =
     let results = whole_results jobs (viewed view a) (viewed view b) ms f in
     let set : All IsSome (table f.explained.state) = subst (All IsSome) (sym results) (All-from_recursion IsSome (results_from 0 (offers_from 0 jobs) (posted ms)) (all_set 0 (offers_from 0 jobs) (posted ms) none)) in
@@ -178,9 +178,9 @@ whole_explains mach view Plain laws jobs a b ms report f plain none answers few 
       files = f.explained.files_at_end;
       report = record {
         whole = whole;
-        outcomes = answers ∙ sym (told_outcomes (replies_at jobs) 0 jobs ms (replies_first jobs) f.told) ∙ ap (outcomes_told (all_asked jobs)) (sym results);
+        outcomes = answers ∙ sym (told_outcomes (replies_at jobs) 0 jobs ms (replies_first jobs) f.told) ∙ ap (outcomes_told (model_jobs jobs)) (sym results);
         idle = let r = f.restful whole in record { pending = r.pending; tail = r.tail; plain = plain };
-        few = subst (λ n. turns ms ≤ n) (sym (length-map jobs asked)) few;
+        few = subst (λ n. turns ms ≤ n) (sym (length-map jobs model_job)) few;
       };
       fault = tt;
     }

@@ -10,7 +10,7 @@ use Rattle.uring_model.specs.declared.jobs.Link.TheVariants.{Free, Soft, Hard}
 use Rattle.uring_model.specs.declared.jobs.Job.{Job}
 use Rattle.uring_model.specs.declared.jobs.JobKind.{JobKind}
 use Rattle.uring_model.specs.declared.jobs.JobKind.TheVariants.{Nop, Read, Write, Fsync, Ftruncate, Cancel}
-use Rattle.uring_model.specs.Jobs.{asked, is_valid_job}
+use Rattle.uring_model.specs.Jobs.{model_job, is_valid_job}
 use Rattle.ring_traits.specs.Lists.{small}
 use Rattle.run_loop.specs.declared.entries.Offer.{Offer}
 use Rattle.run_loop.specs.declared.slot.Reply.{Reply}
@@ -82,12 +82,12 @@ lends_at jobs = lends_in (offers_from 0 jobs)
 -- each job is valid
 abbrev pub AllValid : List Job → Type 0
 AllValid [] = Unit {0}
-AllValid (job ∷ jobs) = (is_valid_job (asked job) ≡ true) × AllValid jobs
+AllValid (job ∷ jobs) = (is_valid_job (model_job job) ≡ true) × AllValid jobs
 
 -- the first job that isn't valid, counted from n
 abbrev pub first_bad : ℕ → List Job → Option ℕ
 first_bad n [] = None
-first_bad n (job ∷ jobs) = if is_valid_job (asked job) then first_bad (n + 1) jobs else Some n
+first_bad n (job ∷ jobs) = if is_valid_job (model_job job) then first_bad (n + 1) jobs else Some n
 
 -- a file's number has 32 bits
 abbrev pub IsInRange : JobKind → Type 0

@@ -97,9 +97,9 @@ pub record Round {W : Type 0} (mach : schedule.Machine W) {P R : Type 0} (log : 
   pub fits : HasRoom at
   pub logs : IsLogged (log old) ms (log new)
   pub states : schedule.IsServed mach (state old) ms (state new)
-  pub asked : ℕ
-  pub enough : length at.published ≤ asked
-  pub call : IsCall entered asked (Some at) ms
+  pub to_submit : ℕ
+  pub enough : length at.published ≤ to_submit
+  pub call : IsCall entered to_submit (Some at) ms
   pub whole : OnTrue entered (IsWholeTurn mach (state old) (Some at) ms)
   pub taken : at.published ≡ took ms ++ after.published
   pub pushed : after.pushed ≡ []

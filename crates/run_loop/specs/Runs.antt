@@ -11,7 +11,7 @@ use Rattle.uring_model.specs.declared.jobs.RunFault.TheVariants.{BadSize, BadJob
 use Rattle.uring_model.specs.Replay.{IsBusy}
 use Rattle.uring_model.specs.Moves.{Move, took, journal_of, log_of, IsLogged}
 use Rattle.uring_base.specs.Sizes.{is_valid_size}
-use Rattle.uring_model.specs.Jobs.{all_asked}
+use Rattle.uring_model.specs.Jobs.{model_jobs}
 use Rattle.uring_model.specs.Machine.{Files}
 use Rattle.uring_model.specs.Schedule as schedule
 use Rattle.uring_model.specs.Refines.{IsIdle}
@@ -72,7 +72,7 @@ pub record RunSays {W : Type 0} (mach : schedule.Machine W) (view : W → Files)
   pub report : IfOk result (IsReported log old jobs ran.moves)
   pub fault : IfErr result (IsFaulted jobs idle (log_of ran.moves))
   -- over a partner that tells its files and began idle
-  pub memory : (a : schedule.State W) → state old ≡ Some a → IsIdle Plain a → (b : schedule.State W) × (state new ≡ Some b) × Explains view Plain (all_asked jobs) a ran.moves b result
+  pub memory : (a : schedule.State W) → state old ≡ Some a → IsIdle Plain a → (b : schedule.State W) × (state new ≡ Some b) × Explains view Plain (model_jobs jobs) a ran.moves b result
 
 -- sizes and jobs that a run takes
 pub record IsValidRun (sq cq : ℕ) (jobs : List Job) : Type 0 where

@@ -1,7 +1,7 @@
 //! The entries of the jobs.
 
 ghost use Rattle.std.specs.Prelude.{◌≡◌, ◌≤◌, ◌<◌, ◌^◌, IfNone, true, Some};
-ghost use Rattle.uring_model.specs.Jobs.{asked, is_valid_job, is_valid_at};
+ghost use Rattle.uring_model.specs.Jobs.{model_job, is_valid_job, is_valid_at};
 ghost use Rattle.run_loop.specs.Entries.{AllValid, IsInRange, AllInRange, first_bad, unlinked_if};
 
 use crate::slot::Reply;
@@ -29,7 +29,7 @@ fn is_in_range(offset: u64, buf: &Buf) -> bool
 }
 
 fn is_valid(job: &Job) -> bool
-    ensures { result ≡ is_valid_job (asked job.now) }
+    ensures { result ≡ is_valid_job (model_job job.now) }
 {
     match &job.kind {
         JobKind::Read { offset, buf, .. } | JobKind::Write { offset, buf, .. } => {

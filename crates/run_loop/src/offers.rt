@@ -1,7 +1,7 @@
 //! What is still to be offered.
 
 ghost use Rattle.std.specs.Prelude.{◌≡◌, ◌∷◌, [], true, MatchOption, IfSome};
-ghost use Rattle.uring_model.specs.Jobs.{asked, is_valid_job};
+ghost use Rattle.uring_model.specs.Jobs.{model_job, is_valid_job};
 ghost use Rattle.run_loop.specs.Entries.{AllValid, offer_of, offers_from};
 
 use crate::entries::unlinked_if;
@@ -52,7 +52,7 @@ impl Offers {
     /// Takes the job in front, if one is left; the last one has no link.
     pub fn pop_front(&mut self) -> Option<Due>
         ensures front { MatchOption result ((self.old ≡ []) × (self.new ≡ [])) (λ due. self.old ≡ offer_of due.number due.job ∷ self.new) }
-        ensures valid { IfSome result (λ due. is_valid_job (asked due.job) ≡ true) }
+        ensures valid { IfSome result (λ due. is_valid_job (model_job due.job) ≡ true) }
     {
         let job = self.jobs.pop_front()?;
         let number = self.number;

@@ -5,7 +5,7 @@ ghost use Rattle.uring_base.specs.declared.events.Taken.{Taken};
 ghost use Rattle.uring_base.specs.Causes.{HasCause};
 ghost use Rattle.ring_traits.specs.Lists.{Lists, Becomes, small};
 ghost use Rattle.run_loop.specs.Rounds.{pushed_more, IsCalm, Round, engine_fault, is_partner_fault};
-ghost use Rattle.uring_model.specs.Jobs.{asked, is_valid_job};
+ghost use Rattle.uring_model.specs.Jobs.{model_job, is_valid_job};
 ghost use Rattle.run_loop.specs.Entries.{all_taken, entry_of, loan_of, offer_of};
 ghost use Rattle.run_loop.specs.Flights.{IsAhead, IsSettled, AreOperated, AreReplied, NoneResolved, jobs_of};
 
@@ -28,7 +28,7 @@ fn start<R: UserEnds>(
     requires operated { AreOperated engine.old.ops table.old.started table.old.slots.items (jobs_of table.old.in_flight.items) }
     requires replied { AreReplied table.old.slots.items table.old.in_flight.items }
     requires none { NoneResolved engine.old.ops }
-    requires valid { is_valid_job (asked next.job) ≡ true }
+    requires valid { is_valid_job (model_job next.job) ≡ true }
     requires ahead { IsAhead table.old.started table.old.slots.items (offer_of next.number next.job) }
     requires room { 0 < R.room engine.old.ring }
     requires inside { table.old.started < vec_len table.old.slots }

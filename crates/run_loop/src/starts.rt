@@ -3,7 +3,7 @@
 ghost use Rattle.std.specs.Prelude.{◌≡◌, ◌+◌, ◌<◌, ◌≤◌, ◌^◌, ◌∷◌, [], ℕ, Some, None, is_some, true, false, IfOk, IfErr, OnOk, length};
 ghost use Rattle.uring_base.specs.FlagBits.{bits_in};
 ghost use Rattle.uring_model.specs.declared.jobs.JobKind.{JobKind};
-ghost use Rattle.uring_model.specs.Jobs.{asked, is_valid_job, is_valid_at};
+ghost use Rattle.uring_model.specs.Jobs.{model_job, is_valid_job, is_valid_at};
 ghost use Rattle.ring_traits.specs.Lists.{Becomes, small};
 ghost use Rattle.rent_engine.specs.Ops.{knows, started};
 ghost use Rattle.run_loop.specs.Entries.{words_of, loan_of, entry_of, offer_of};
@@ -152,7 +152,7 @@ pub fn start_job<R: UserEnds>(
 ) -> Result<JobOp, RunFault>
     requires unknown { knows engine.old.ops number ≡ false }
     requires room { 0 < R.room engine.old.ring }
-    requires valid { is_valid_job (asked job) ≡ true }
+    requires valid { is_valid_job (model_job job) ≡ true }
     ensures begun { IfOk result (λ op. IsBegun R.lists R.room R.waiting number job.kind (mark_bits job.drain job.link) engine.old.ring engine.new.ring engine.old.ops engine.new.ops op) }
     ensures memory { IfErr result (λ e. e ≡ RunFault.NoMemory) }
 {

@@ -1,4 +1,5 @@
 pub mod Causes
+pub mod Errnos
 pub mod Words
 pub mod Targets
 pub mod FlagBits

@@ -41,10 +41,10 @@ read = refl
 write : job_of (lent (write_entry 3 7 2 10)) ≡ record { op = Write 3 10; buf = 8 ∷ 7 ∷ []; drain = false; link = Free }
 write = refl
 
-read_without_loan : op_of (plain (read_entry 3 7 2 10)) ≡ Refused 21
+read_without_loan : op_of (plain (read_entry 3 7 2 10)) ≡ Refused (negsuc 21)
 read_without_loan = refl
 
-write_without_loan : op_of (plain (write_entry 3 7 2 10)) ≡ Refused 21
+write_without_loan : op_of (plain (write_entry 3 7 2 10)) ≡ Refused (negsuc 21)
 write_without_loan = refl
 
 -- the greatest file number is the word -1
@@ -60,13 +60,13 @@ truncate = refl
 cancel : op_of (plain (record (blank 14) { addr = 6 })) ≡ Cancel 6
 cancel = refl
 
-cancel_by_flags : op_of (plain (record (blank 14) { addr = 6; op = 1 })) ≡ Refused 94
+cancel_by_flags : op_of (plain (record (blank 14) { addr = 6; op = 1 })) ≡ Refused (negsuc 94)
 cancel_by_flags = refl
 
-unknown : op_of (plain (blank 60)) ≡ Refused 94
+unknown : op_of (plain (blank 60)) ≡ Refused (negsuc 94)
 unknown = refl
 
-buffer_selection : op_of (lent (record (read_entry 3 7 2 10) { flags = 33 })) ≡ Refused 94
+buffer_selection : op_of (lent (record (read_entry 3 7 2 10) { flags = 33 })) ≡ Refused (negsuc 94)
 buffer_selection = refl
 
 abbrev flagged : ℕ → Taken

@@ -15,10 +15,10 @@ use Rattle.uring_model.specs.declared.jobs.JobKind.TheVariants as kinds
 use Rattle.uring_model.specs.declared.jobs.Link.TheVariants.{Free}
 use Rattle.uring_model.specs.declared.rows.Row as code
 use Rattle.uring_model.specs.declared.rows.Settled.{Settled}
-use Rattle.uring_model.specs.declared.request.Asked.{Asked}
+use Rattle.uring_model.specs.declared.operation.Operation.{Operation}
 use Rattle.uring_model.specs.Machine.{Files, FileAnswer, step}
-use Rattle.uring_model.specs.Jobs.{asked, all_asked, op_asked, buf_lent, is_valid_op, is_valid_job}
-use Rattle.uring_model.specs.Asked.{op_in, answer_in, FindsAs}
+use Rattle.uring_model.specs.Jobs.{model_job, model_jobs, model_op, buf_lent, is_valid_op, is_valid_job}
+use Rattle.uring_model.specs.Operations.{op_in, answer_in, FindsAs}
 use Rattle.uring_model.specs.Replay.{Done, Place, State, can_mark, can_mark_other, mark_if, settle, severed, may, place_of, post_at, settled, outcome_of, last_unlinked}
 use Rattle.uring_model.specs.Rows.{rows_in, place_between, HasCount, HasCounts}
 use Rattle.uring_model.proofs.Scanned.{place_at, place_past, place_in, place_if, rows_put}
@@ -36,15 +36,15 @@ settle_open : (files : Files) (p : Place) → p.marked ≡ false → severed fal
 settle_open files p m s = rw (m, s) refl
 
 -- a job that is neither canceled nor severed steps
-pub settle_steps : (files : Files) (before : List code.Row) (row : code.Row) (after : List code.Row) (asks : Asked) (can : Bool) (buf : List ℕ)
-    → row.marked ≡ false → severed false (rows_in before) ≡ false → op_in asks ≡ op_asked row.job.kind → buf ≡ buf_lent row.job.kind
+pub settle_steps : (files : Files) (before : List code.Row) (row : code.Row) (after : List code.Row) (asks : Operation) (can : Bool) (buf : List ℕ)
+    → row.marked ≡ false → severed false (rows_in before) ≡ false → op_in asks ≡ model_op row.job.kind → buf ≡ buf_lent row.job.kind
     → FindsAs (λ t. can_mark t 0 (rows_in before) || can_mark t (length (rows_in before) + 1) (rows_in after)) can asks
     → answer_in files can asks buf ≡ settle files (place_between before row after)
 settle_steps files before row after asks can buf m s op b f =
     let p = place_between before row after in
     step_finds files (can_mark_other p) can asks buf f
     ∙ ap (λ o. step files (can_mark_other p) o buf) op
-    ∙ ap (λ b. step files (can_mark_other p) (op_asked row.job.kind) b) b
+    ∙ ap (λ b. step files (can_mark_other p) (model_op row.job.kind) b) b
     ∙ sym (settle_open files p m s)
 
 pub answer_parts : (a : FileAnswer) (r : ℤ) (buf part : List ℕ) (files : Files) (marks : Option ℕ) → length part ≡ length buf → r ≡ a.result → part ≡ a.buf → files ≡ a.world → marks ≡ a.marks → record { result = r; buf = laid_over buf part; world = files; marks = marks } ≡ a
@@ -53,12 +53,12 @@ answer_parts a r buf part files marks h er eb ef em =
     rw (laid_whole buf part h) e
 
 -- the last job without its link
-pub unlinked : (js : List jobs.Job) (k : ℕ) (j : jobs.Job) → k + 1 ≡ length js → j ≡ get_or js k j → all_asked (set js k (record { kind = j.kind; drain = j.drain; link = Free })) ≡ last_unlinked (all_asked js)
+pub unlinked : (js : List jobs.Job) (k : ℕ) (j : jobs.Job) → k + 1 ≡ length js → j ≡ get_or js k j → model_jobs (set js k (record { kind = j.kind; drain = j.drain; link = Free })) ≡ last_unlinked (model_jobs js)
 unlinked [] k j h e = absurd (omega arith)
-unlinked (x ∷ []) zero j h e = ap (λ y. asked (record { kind = y.kind; drain = y.drain; link = Free }) ∷ []) e
+unlinked (x ∷ []) zero j h e = ap (λ y. model_job (record { kind = y.kind; drain = y.drain; link = Free }) ∷ []) e
 unlinked (x ∷ []) (suc k) j h e = absurd (omega arith)
 unlinked (x ∷ y ∷ js) zero j h e = absurd (omega arith)
-unlinked (x ∷ y ∷ js) (suc k) j h e = ap (λ l. asked x ∷ l) (unlinked (y ∷ js) k j (omega arith) e)
+unlinked (x ∷ y ∷ js) (suc k) j h e = ap (λ l. model_job x ∷ l) (unlinked (y ∷ js) k j (omega arith) e)
 
 pub post_past : (s : State) (r : ℤ) (k : ℕ) (rows : List code.Row) → length rows ≤ k → None ≡ post_at s r (place_of [] (rows_in rows) k)
 post_past s r k rows h = ap (post_at s r) (sym (place_past [] k rows h))
@@ -117,9 +117,9 @@ posted s k rows new row now a r h e en er en' =
     ap (λ rs. record { files = a.world; rows = rs; rest = s.rest })
     (en' ∙ ap (mark_if a.marks)
     (rows_put k rows (settled_row now r a.buf) h
-    ∙ ap (λ x. rows_in (take k rows) ++ Done (asked x.job) (record { result = r; buf = a.buf }) ∷ rows_in (drop (suc k) rows)) (got_same k rows now row h en e)
-    ∙ ap (λ r. rows_in (take k rows) ++ Done (asked row.job) (record { result = r; buf = a.buf }) ∷ rows_in (drop (suc k) rows)) er
-    ∙ ap (λ n. rows_in (take k rows) ++ Done (asked row.job) (outcome_of a) ∷ rows_in (drop n rows)) one))
+    ∙ ap (λ x. rows_in (take k rows) ++ Done (model_job x.job) (record { result = r; buf = a.buf }) ∷ rows_in (drop (suc k) rows)) (got_same k rows now row h en e)
+    ∙ ap (λ r. rows_in (take k rows) ++ Done (model_job row.job) (record { result = r; buf = a.buf }) ∷ rows_in (drop (suc k) rows)) er
+    ∙ ap (λ n. rows_in (take k rows) ++ Done (model_job row.job) (outcome_of a) ∷ rows_in (drop n rows)) one))
 
 -- a job's buffer is in bounds also where its row has an outcome
 pub counts_put : (rows : List code.Row) (k : ℕ) (now : code.Row) (r : ℤ) (buf : List ℕ) → k < length rows → now ≡ get_or rows k now → HasCounts rows → HasCounts (set rows k (settled_row now r buf))
@@ -134,7 +134,7 @@ counts_rest rest old job e more = λ k d h. subst (All HasCount) e more (suc k) 
 at_most : (a b : ℕ) (rest : Bool) → IsTrue (nat_le a b && rest) → a ≤ b
 at_most a b rest h = grind (arith, nat_tests)
 
-kind_count : (kind : JobKind) → IsTrue (is_valid_op (op_asked kind) (buf_lent kind)) → length (buf_lent kind) < 2 ^ 31
+kind_count : (kind : JobKind) → IsTrue (is_valid_op (model_op kind) (buf_lent kind)) → length (buf_lent kind) < 2 ^ 31
 kind_count kinds.Nop h = omega arith
 kind_count (kinds.Read file offset buf) h = let le = at_most (length buf) 2147483647 _ h in omega arith
 kind_count (kinds.Write file offset buf) h = let le = at_most (length buf) 2147483647 _ h in omega arith
@@ -142,9 +142,9 @@ kind_count (kinds.Fsync file) h = omega arith
 kind_count (kinds.Ftruncate file len) h = omega arith
 kind_count (kinds.Cancel job) h = omega arith
 
-valid_count : (j : jobs.Job) → IsTrue (is_valid_job (asked j)) → HasCount j
+valid_count : (j : jobs.Job) → IsTrue (is_valid_job (model_job j)) → HasCount j
 valid_count j h = kind_count j.kind h
 
 -- a valid job has a count
-pub valid_counts : (js : List jobs.Job) → All (λ j. IsTrue (is_valid_job (asked j))) js → All HasCount js
+pub valid_counts : (js : List jobs.Job) → All (λ j. IsTrue (is_valid_job (model_job j))) js → All HasCount js
 valid_counts js all = λ k d h. valid_count (get_or js k d) (all k d h)

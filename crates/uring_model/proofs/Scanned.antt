@@ -5,7 +5,7 @@ use Rattle.std.proofs.Math.Seq.{drop-cons}
 use Rattle.std.proofs.Math.Bool.{or-true, or-false}
 use Rattle.std.proofs.lemmas.Bool.Decides.{nat_tests}
 use Rattle.std.specs.Prelude.{slice_get, nat_eq}
-use Rattle.uring_model.specs.Jobs.{Job, asked}
+use Rattle.uring_model.specs.Jobs.{Job, model_job}
 use Rattle.uring_model.specs.Replay.{Row, Open, Done, Place, waits, severed, drains_done, all_done, can_mark, mark, mark_if, place_of}
 use Rattle.uring_model.specs.Rows.{row_in, rows_in, row_of, result_in, is_markable}
 use Rattle.uring_model.specs.declared.rows.Row as code
@@ -109,13 +109,13 @@ marked_row r = record { job = r.job; marked = true; outcome = r.outcome }
 
 pub mark_at : (n k : ℕ) (rows : List code.Row) (r : code.Row) → k < length rows → r ≡ get_or rows k r → rows_in (set rows k (marked_row r)) ≡ mark (n + k) n (rows_in rows)
 mark_at n k [] r h e = absurd (omega arith)
-mark_at n zero (x ∷ rows) r h e = ap (λ y. row_in (marked_row y) ∷ rows_in rows) e ∙ sym (mark_hits n (asked x.job) x.marked x.outcome (rows_in rows))
-mark_at n (suc k) (x ∷ rows) r h e = ap (λ ys. row_in x ∷ ys) (mark_at (n + 1) k rows r (omega arith) e) ∙ sym (mark_misses n k (asked x.job) x.marked x.outcome (rows_in rows))
+mark_at n zero (x ∷ rows) r h e = ap (λ y. row_in (marked_row y) ∷ rows_in rows) e ∙ sym (mark_hits n (model_job x.job) x.marked x.outcome (rows_in rows))
+mark_at n (suc k) (x ∷ rows) r h e = ap (λ ys. row_in x ∷ ys) (mark_at (n + 1) k rows r (omega arith) e) ∙ sym (mark_misses n k (model_job x.job) x.marked x.outcome (rows_in rows))
 
 pub mark_past : (n k : ℕ) (rows : List code.Row) → length rows ≤ k → mark (n + k) n (rows_in rows) ≡ rows_in rows
 mark_past n k [] h = refl
 mark_past n zero (x ∷ rows) h = absurd (omega arith)
-mark_past n (suc k) (x ∷ rows) h = mark_misses n k (asked x.job) x.marked x.outcome (rows_in rows) ∙ ap (λ ys. row_in x ∷ ys) (mark_past (n + 1) k rows (omega arith))
+mark_past n (suc k) (x ∷ rows) h = mark_misses n k (model_job x.job) x.marked x.outcome (rows_in rows) ∙ ap (λ ys. row_in x ∷ ys) (mark_past (n + 1) k rows (omega arith))
 
 pub marks_row : (t : ℕ) (marks : Option ℕ) (rows : List code.Row) (r : code.Row) → marks ≡ Some t → t < length rows → r ≡ get_or rows t r → rows_in (set rows t (marked_row r)) ≡ mark_if marks (rows_in rows)
 marks_row t marks rows r is h e =
@@ -132,7 +132,7 @@ place_if None p = Some p
 place_if (Some o) p = None
 
 abbrev pub place_in : List Row → List code.Row → ℕ → code.Row → Place
-place_in front rows k r = record { before = front ++ rows_in (take k rows); job = asked r.job; marked = r.marked; after = rows_in (drop (suc k) rows) }
+place_in front rows k r = record { before = front ++ rows_in (take k rows); job = model_job r.job; marked = r.marked; after = rows_in (drop (suc k) rows) }
 
 place_hits : (front : List Row) (job : Job) (m : Bool) (o : Option Settled) (rows : List Row) → place_of front (row_of job m o ∷ rows) zero ≡ place_if o (record { before = front; job = job; marked = m; after = rows })
 place_hits front job m None rows = refl
@@ -145,18 +145,18 @@ place_misses front k job m (Some o) rows = refl
 pub place_at : (front : List Row) (k : ℕ) (rows : List code.Row) (r : code.Row) → k < length rows → r ≡ get_or rows k r → place_of front (rows_in rows) k ≡ place_if r.outcome (place_in front rows k r)
 place_at front k [] r h e = absurd (omega arith)
 place_at front zero (x ∷ rows) r h e =
-    place_hits front (asked x.job) x.marked x.outcome (rows_in rows)
-    ∙ ap (λ b. place_if x.outcome (record { before = b; job = asked x.job; marked = x.marked; after = rows_in rows })) (sym (append-nil front))
+    place_hits front (model_job x.job) x.marked x.outcome (rows_in rows)
+    ∙ ap (λ b. place_if x.outcome (record { before = b; job = model_job x.job; marked = x.marked; after = rows_in rows })) (sym (append-nil front))
     ∙ ap (λ y. place_if y.outcome (place_in front (x ∷ rows) 0 y)) (sym e)
 place_at front (suc k) (x ∷ rows) r h e =
-    place_misses front k (asked x.job) x.marked x.outcome (rows_in rows)
+    place_misses front k (model_job x.job) x.marked x.outcome (rows_in rows)
     ∙ place_at (front ++ row_in x ∷ []) k rows r (omega arith) e
-    ∙ ap (λ b. place_if r.outcome (record { before = b; job = asked r.job; marked = r.marked; after = rows_in (drop (suc k) rows) })) (append_assoc front (row_in x ∷ []) (rows_in (take k rows)))
+    ∙ ap (λ b. place_if r.outcome (record { before = b; job = model_job r.job; marked = r.marked; after = rows_in (drop (suc k) rows) })) (append_assoc front (row_in x ∷ []) (rows_in (take k rows)))
 
 pub place_past : (front : List Row) (k : ℕ) (rows : List code.Row) → length rows ≤ k → place_of front (rows_in rows) k ≡ None
 place_past front k [] h = refl
 place_past front zero (x ∷ rows) h = absurd (omega arith)
-place_past front (suc k) (x ∷ rows) h = place_misses front k (asked x.job) x.marked x.outcome (rows_in rows) ∙ place_past (front ++ row_in x ∷ []) k rows (omega arith)
+place_past front (suc k) (x ∷ rows) h = place_misses front k (model_job x.job) x.marked x.outcome (rows_in rows) ∙ place_past (front ++ row_in x ∷ []) k rows (omega arith)
 
 pub rows_put : (k : ℕ) (rows : List code.Row) (r : code.Row) → k < length rows → rows_in (set rows k r) ≡ rows_in (take k rows) ++ row_in r ∷ rows_in (drop (suc k) rows)
 rows_put k [] r h = absurd (omega arith)

@@ -68,17 +68,17 @@ post_same : (t : Taken) (r s : ℤ) (f g : ℤ → List ℕ → Option Loan) (x 
     → ◌≡◌ {A = Completion} (record { user_data = t.entry.user_data; result = r; flags = 0; big = 0 ∷ 0 ∷ []; loan = f r x }) (record { user_data = t.entry.user_data; result = s; flags = 0; big = 0 ∷ 0 ∷ []; loan = g s y })
 post_same t r s f g x y p e q = λ i. record { user_data = t.entry.user_data; result = p i; flags = 0; big = 0 ∷ 0 ∷ []; loan = (ap (λ k. f k x) p ∙ ap (f s) q ∙ e s y) i }
 
-module _ {W V : Type 0} (m : Machine W) (n : Machine V) (view : W → V) (Plain : W → Type 0) (Asked : Taken → Type 0) (r : Refines m n view Plain Asked) where
+module _ {W V : Type 0} (m : Machine W) (n : Machine V) (view : W → V) (Plain : W → Type 0) (Allowed : Taken → Type 0) (r : Refines m n view Plain Allowed) where
   abbrev look : State W → State V
   look a = record { world = view a.world; pending = a.pending; tail = a.tail; choices = a.choices }
 
   abbrev Good : State W → Type 0
-  Good a = IsPlainState Plain Asked a
+  Good a = IsPlainState Plain Allowed a
 
   abbrev Each : List Pending → Type 0
-  Each is = AllByRecursion (λ i. Asked i.taken) is
+  Each is = AllByRecursion (λ i. Allowed i.taken) is
 
-  ready_same : (w : W) (front : List Pending) (i : Pending) → Plain w → Asked i.taken → is_ready (m.can_answer w) front i ≡ is_ready (n.can_answer (view w)) front i
+  ready_same : (w : W) (front : List Pending) (i : Pending) → Plain w → Allowed i.taken → is_ready (m.can_answer w) front i ≡ is_ready (n.can_answer (view w)) front i
   ready_same w front i p q = ap (λ b. (b || i.marked || i.cut) && (not (held false front) && no_drain front && (not (job_of i.taken).drain || is_nil front))) (r.can w i.taken p q)
 
   cursors_same : (w : W) (front is : List Pending) → Plain w → Each is → ready_cursors (m.can_answer w) front is ≡ ready_cursors (n.can_answer (view w)) front is
@@ -95,15 +95,15 @@ module _ {W V : Type 0} (m : Machine W) (n : Machine V) (view : W → V) (Plain 
 
   -- one answer
 
-  answer_either : (w : W) (c : Cursor) (b : Bool) → Plain w → Asked c.item.taken
+  answer_either : (w : W) (c : Cursor) (b : Bool) → Plain w → Allowed c.item.taken
       → Agrees view (if b then canceled_in w (job_of c.item.taken).buf else m.answer w (other_in c) c.item.taken) (if b then canceled_in (view w) (job_of c.item.taken).buf else n.answer (view w) (other_in c) c.item.taken)
   answer_either w c true p q = record { result = refl; buf = refl; world = refl; marks = refl }
   answer_either w c false p q = r.answers w (other_in c) c.item.taken p q
 
-  answer_same : (w : W) (c : Cursor) → Plain w → Asked c.item.taken → Agrees view (answer_to m w c) (answer_to n (view w) c)
+  answer_same : (w : W) (c : Cursor) → Plain w → Allowed c.item.taken → Agrees view (answer_to m w c) (answer_to n (view w) c)
   answer_same w c p q = answer_either w c (c.item.marked || c.item.cut) p q
 
-  plain_either : (w : W) (c : Cursor) (b : Bool) → Plain w → Asked c.item.taken → Plain (if b then canceled_in w (job_of c.item.taken).buf else m.answer w (other_in c) c.item.taken).world
+  plain_either : (w : W) (c : Cursor) (b : Bool) → Plain w → Allowed c.item.taken → Plain (if b then canceled_in w (job_of c.item.taken).buf else m.answer w (other_in c) c.item.taken).world
   plain_either w c true p q = p
   plain_either w c false p q = r.stays w (other_in c) c.item.taken p q
 
@@ -117,17 +117,17 @@ module _ {W V : Type 0} (m : Machine W) (n : Machine V) (view : W → V) (Plain 
     choices = drop 1 a.choices;
   }
 
-  post_seen : (t : Taken) (y : Answer W) (z : Answer V) → Asked t → Agrees view y z → completion_of m t y ≡ completion_of n t z
+  post_seen : (t : Taken) (y : Answer W) (z : Answer V) → Allowed t → Agrees view y z → completion_of m t y ≡ completion_of n t z
   post_seen t y z q g = post_same t y.result z.result (m.back t) (n.back t) y.buf z.buf g.result (λ k x. r.backs t k x q) g.buf
 
   -- the entry that a choice names is one that may be asked, and what is left is plain
-  named_fine : (a : State W) (c : Cursor) → Good a → named (choice a.choices) (cursors m a) ≡ Some c → Asked c.item.taken × Good (settled_by m a c)
+  named_fine : (a : State W) (c : Cursor) → Good a → named (choice a.choices) (cursors m a) ≡ Some c → Allowed c.item.taken × Good (settled_by m a c)
   named_fine a c f e =
       let whole = split_of (m.can_answer a.world) [] a.pending ((choice a.choices / 2) % length (cursors m a)) c e in
-      let parts = all_split Asked c.front (c.item ∷ c.back) (subst Each (sym whole) f.pending) in
-      (parts.1.0, record { world = plain_either a.world c (c.item.marked || c.item.cut) f.world parts.1.0; pending = all_settled Asked a c (answer_to m a.world c) parts.0 parts.1.1 })
+      let parts = all_split Allowed c.front (c.item ∷ c.back) (subst Each (sym whole) f.pending) in
+      (parts.1.0, record { world = plain_either a.world c (c.item.marked || c.item.cut) f.world parts.1.0; pending = all_settled Allowed a c (answer_to m a.world c) parts.0 parts.1.1 })
 
-  settled_seen : (a : State W) (c : Cursor) → Good a → Asked c.item.taken → look (settled_by m a c) ≡ settled_by n (look a) c
+  settled_seen : (a : State W) (c : Cursor) → Good a → Allowed c.item.taken → look (settled_by m a c) ≡ settled_by n (look a) c
   settled_seen a c f q = settle_same a c (answer_to m a.world c) (answer_to n (view a.world) c) (answer_same a.world c f.world q)
 
   settles_seen : (a : State W) (post : Completion) → Good a → (s : Settles m a post) → Settles n (look a) post
@@ -137,12 +137,12 @@ module _ {W V : Type 0} (m : Machine W) (n : Machine V) (view : W → V) (Plain 
     completion = s.completion ∙ post_seen s.cursor.item.taken (answer_to m a.world s.cursor) (answer_to n (view a.world) s.cursor) (named_fine a s.cursor f s.chosen).0 (answer_same a.world s.cursor f.world (named_fine a s.cursor f s.chosen).0);
   }
 
-  take_fine : (a : State W) (t : Taken) → Good a → Asked t → Good (after_take a t)
-  take_fine a t f q = record { world = f.world; pending = all-append Asked a.pending (record { taken = t; cut = cut_of a.tail; marked = false } ∷ []) f.pending (q, tt) }
+  take_fine : (a : State W) (t : Taken) → Good a → Allowed t → Good (after_take a t)
+  take_fine a t f q = record { world = f.world; pending = all-append Allowed a.pending (record { taken = t; cut = cut_of a.tail; marked = false } ∷ []) f.pending (q, tt) }
 
   -- steps
 
-  pub steps_seen : (over : Bool) (a b : State W) (ms : List Move) → Good a → AllByRecursion Asked (took ms) → Steps m over a ms b → Steps n over (look a) ms (look b) × Good b
+  pub steps_seen : (over : Bool) (a b : State W) (ms : List Move) → Good a → AllByRecursion Allowed (took ms) → Steps m over a ms b → Steps n over (look a) ms (look b) × Good b
   unfolding settles_seen
   steps_seen over a b [] f q h = (ap look h, subst Good (sym h) f)
   steps_seen over a b (Turned p ∷ ms) f q h = steps_seen false a b ms f q h
@@ -197,11 +197,11 @@ module _ {W V : Type 0} (m : Machine W) (n : Machine V) (view : W → V) (Plain 
   take_seen [] a = refl
   take_seen (t ∷ ts) a = take_seen ts (after_take a t)
 
-  takes_fine : (ts : List Taken) (a : State W) → Good a → AllByRecursion Asked ts → Good (take_all a ts)
+  takes_fine : (ts : List Taken) (a : State W) → Good a → AllByRecursion Allowed ts → Good (take_all a ts)
   takes_fine [] a f q = f
   takes_fine (t ∷ ts) a f q = takes_fine ts (after_take a t) (take_fine a t f q.0) q.1
 
-  pub turn_seen : (room : ℕ) (ts : List Taken) (a : State W) → Good a → AllByRecursion Asked ts
+  pub turn_seen : (room : ℕ) (ts : List Taken) (a : State W) → Good a → AllByRecursion Allowed ts
       → ((turn m ts room a).posts ≡ (turn n ts room (look a)).posts) × (look (turn m ts room a).state ≡ (turn n ts room (look a)).state) × Good (turn m ts room a).state
   turn_seen room ts a f q =
       let b = take_all a ts in

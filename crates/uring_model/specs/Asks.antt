@@ -4,7 +4,12 @@ use Rattle.std.specs.Int.{w32, cast_unsigned}
 use Rattle.uring_base.specs.declared.squeue.Entry.{Entry}
 use Rattle.uring_base.specs.declared.buffer.Loan.{Loan}
 use Rattle.uring_base.specs.declared.events.Taken.{Taken}
-use Rattle.uring_base.specs.FlagBits.{has_bit}
+use Rattle.uring_base.specs.FlagBits.{has_flags}
+use Rattle.uring_base.specs.Errnos.{error_result}
+use Rattle.uring_base.specs.declared.errno.TheConstants.{EINVAL, EOPNOTSUPP}
+use Rattle.uring_base.specs.declared.flags.TheConstants.Flags.{IO_DRAIN, IO_LINK, IO_HARDLINK, BUFFER_SELECT}
+use Rattle.uring_base.specs.declared.limits.TheConstants.{MAX_BUFFER}
+use Rattle.uring_base.specs.declared.opcodes.TheConstants as opcodes
 use Rattle.uring_base.specs.Loans.{part_of}
 use Rattle.uring_model.specs.declared.jobs.Link.{Link}
 use Rattle.uring_model.specs.declared.jobs.Link.TheVariants.{Free, Soft, Hard}
@@ -15,8 +20,8 @@ use Rattle.uring_model.specs.Jobs.{Job}
 
 -- a read or write without a loan, or with a part whose length is no result, is refused
 abbrev pub unless_lacking : Option Loan → Op → Op
-unless_lacking None op = Refused 21
-unless_lacking (Some l) op = cond (nat_lt 2147483647 (length (part_of (Some l)))) (Refused 21) op
+unless_lacking None op = Refused (error_result EINVAL)
+unless_lacking (Some l) op = cond (nat_lt MAX_BUFFER (length (part_of (Some l)))) (Refused (error_result EINVAL)) op
 
 -- a file's number is the 32 bits of the descriptor word
 abbrev pub file_of : Entry → ℕ
@@ -25,21 +30,21 @@ file_of e = cast_unsigned w32 e.fd
 -- Buffer selection isn't served; a cancel is served by number alone.
 abbrev pub op_of : Taken → Op
 op_of t =
-    cond (has_bit t.entry.flags 32) (Refused 94)
-    (cond (nat_eq t.entry.opcode 0) Nop
-    (cond (nat_eq t.entry.opcode 22) (unless_lacking t.loan (Read (file_of t.entry) t.entry.off))
-    (cond (nat_eq t.entry.opcode 23) (unless_lacking t.loan (Write (file_of t.entry) t.entry.off))
-    (cond (nat_eq t.entry.opcode 3) (Fsync (file_of t.entry))
-    (cond (nat_eq t.entry.opcode 55) (Ftruncate (file_of t.entry) t.entry.off)
-    (cond (nat_eq t.entry.opcode 14 && nat_eq t.entry.op 0) (Cancel t.entry.addr)
-    (Refused 94)))))))
+    cond (has_flags t.entry.flags BUFFER_SELECT) (Refused (error_result EOPNOTSUPP))
+    (cond (nat_eq t.entry.opcode opcodes.NOP) Nop
+    (cond (nat_eq t.entry.opcode opcodes.READ) (unless_lacking t.loan (Read (file_of t.entry) t.entry.off))
+    (cond (nat_eq t.entry.opcode opcodes.WRITE) (unless_lacking t.loan (Write (file_of t.entry) t.entry.off))
+    (cond (nat_eq t.entry.opcode opcodes.FSYNC) (Fsync (file_of t.entry))
+    (cond (nat_eq t.entry.opcode opcodes.FTRUNCATE) (Ftruncate (file_of t.entry) t.entry.off)
+    (cond (nat_eq t.entry.opcode opcodes.ASYNC_CANCEL && nat_eq t.entry.op 0) (Cancel t.entry.addr)
+    (Refused (error_result EOPNOTSUPP))))))))
 
 -- an entry with both link bits is read as soft
 abbrev pub link_of : ℕ → Link
-link_of flags = cond (has_bit flags 4) Soft (cond (has_bit flags 8) Hard Free)
+link_of flags = cond (has_flags flags IO_LINK) Soft (cond (has_flags flags IO_HARDLINK) Hard Free)
 
 abbrev pub job_of : Taken → Job
-job_of t = record { op = op_of t; buf = part_of t.loan; drain = has_bit t.entry.flags 2; link = link_of t.entry.flags }
+job_of t = record { op = op_of t; buf = part_of t.loan; drain = has_flags t.entry.flags IO_DRAIN; link = link_of t.entry.flags }
 
 -- whether this is one of the six operations that jobs ask
 abbrev pub is_job_operation : Op → Bool
@@ -49,7 +54,7 @@ is_job_operation (Write file offset) = true
 is_job_operation (Fsync file) = true
 is_job_operation (Ftruncate file len) = true
 is_job_operation (Cancel job) = true
-is_job_operation (Refused code) = false
+is_job_operation (Refused answer) = false
 
 -- the entry asks what a job may ask
 abbrev pub IsJobEntry : Taken → Type 0

@@ -1,4 +1,5 @@
 -- A job as the definitions see it, and what a job of the program is there.
+use Rattle.uring_base.specs.declared.limits.TheConstants.{MAX_BUFFER, MAX_POSITION}
 use Rattle.std.specs.Prelude.{ℕ, ◌+◌, Bool, true, false, ◌&&◌, nat_le, List, [], length, map}
 use Rattle.uring_model.specs.declared.jobs.Link.{Link}
 use Rattle.uring_model.specs.declared.jobs.Link.TheVariants.{Free, Soft, Hard}
@@ -37,14 +38,14 @@ moves_bytes (Refused code) = false
 
 -- positions and lengths stay below 2 ^ 63, and a count fits a result
 abbrev pub is_valid_at : ℕ → List ℕ → Bool
-is_valid_at offset buf = nat_le (length buf) 2147483647 && nat_le (offset + length buf) 9223372036854775807
+is_valid_at offset buf = nat_le (length buf) MAX_BUFFER && nat_le (offset + length buf) MAX_POSITION
 
 abbrev pub is_valid_op : Op → List ℕ → Bool
 is_valid_op Nop buf = true
 is_valid_op (Read file offset) buf = is_valid_at offset buf
 is_valid_op (Write file offset) buf = is_valid_at offset buf
 is_valid_op (Fsync file) buf = true
-is_valid_op (Ftruncate file len) buf = nat_le len 9223372036854775807
+is_valid_op (Ftruncate file len) buf = nat_le len MAX_POSITION
 is_valid_op (Cancel t) buf = true
 is_valid_op (Refused code) buf = true
 
@@ -53,13 +54,13 @@ is_valid_job job = is_valid_op job.op job.buf
 
 -- a job of the program
 
-abbrev pub op_asked : JobKind → Op
-op_asked kinds.Nop = Nop
-op_asked (kinds.Read file offset buf) = Read file offset
-op_asked (kinds.Write file offset buf) = Write file offset
-op_asked (kinds.Fsync file) = Fsync file
-op_asked (kinds.Ftruncate file len) = Ftruncate file len
-op_asked (kinds.Cancel job) = Cancel job
+abbrev pub model_op : JobKind → Op
+model_op kinds.Nop = Nop
+model_op (kinds.Read file offset buf) = Read file offset
+model_op (kinds.Write file offset buf) = Write file offset
+model_op (kinds.Fsync file) = Fsync file
+model_op (kinds.Ftruncate file len) = Ftruncate file len
+model_op (kinds.Cancel job) = Cancel job
 
 abbrev pub buf_lent : JobKind → List ℕ
 buf_lent kinds.Nop = []
@@ -69,8 +70,8 @@ buf_lent (kinds.Fsync file) = []
 buf_lent (kinds.Ftruncate file len) = []
 buf_lent (kinds.Cancel job) = []
 
-abbrev pub asked : code.Job → Job
-asked job = record { op = op_asked job.kind; buf = buf_lent job.kind; drain = job.drain; link = job.link }
+abbrev pub model_job : code.Job → Job
+model_job job = record { op = model_op job.kind; buf = buf_lent job.kind; drain = job.drain; link = job.link }
 
-abbrev pub all_asked : List code.Job → List Job
-all_asked jobs = map asked jobs
+abbrev pub model_jobs : List code.Job → List Job
+model_jobs jobs = map model_job jobs

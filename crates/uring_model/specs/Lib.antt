@@ -9,7 +9,7 @@ pub mod Partner
 pub mod Turn
 pub mod Strange
 pub mod Explained
-pub mod Asked
+pub mod Operations
 pub mod Progress
 pub mod Ends
 pub mod Honest

@@ -14,15 +14,15 @@ pub record Agrees {W V : Type 0} (view : W → V) (a : Answer W) (b : Answer V) 
   pub world : view a.world ≡ b.world
   pub marks : a.marks ≡ b.marks
 
-pub record Refines {W V : Type 0} (m : Machine W) (n : Machine V) (view : W → V) (Plain : W → Type 0) (Asked : Taken → Type 0) : Type 0 where
-  pub can : (w : W) (t : Taken) → Plain w → Asked t → m.can_answer w t ≡ n.can_answer (view w) t
-  pub answers : (w : W) (other : ℕ → Bool) (t : Taken) → Plain w → Asked t → Agrees view (m.answer w other t) (n.answer (view w) other t)
-  pub backs : (t : Taken) (r : ℤ) (buf : List ℕ) → Asked t → m.back t r buf ≡ n.back t r buf
-  pub stays : (w : W) (other : ℕ → Bool) (t : Taken) → Plain w → Asked t → Plain (m.answer w other t).world
+pub record Refines {W V : Type 0} (m : Machine W) (n : Machine V) (view : W → V) (Plain : W → Type 0) (Allowed : Taken → Type 0) : Type 0 where
+  pub can : (w : W) (t : Taken) → Plain w → Allowed t → m.can_answer w t ≡ n.can_answer (view w) t
+  pub answers : (w : W) (other : ℕ → Bool) (t : Taken) → Plain w → Allowed t → Agrees view (m.answer w other t) (n.answer (view w) other t)
+  pub backs : (t : Taken) (r : ℤ) (buf : List ℕ) → Allowed t → m.back t r buf ≡ n.back t r buf
+  pub stays : (w : W) (other : ℕ → Bool) (t : Taken) → Plain w → Allowed t → Plain (m.answer w other t).world
 
-pub record IsPlainState {W : Type 0} (Plain : W → Type 0) (Asked : Taken → Type 0) (a : State W) : Type 0 where
+pub record IsPlainState {W : Type 0} (Plain : W → Type 0) (Allowed : Taken → Type 0) (a : State W) : Type 0 where
   pub world : Plain a.world
-  pub pending : AllByRecursion (λ i. Asked i.taken) a.pending
+  pub pending : AllByRecursion (λ i. Allowed i.taken) a.pending
 
 abbrev pub viewed : {W V : Type 0} → (W → V) → State W → State V
 viewed view a = record { world = view a.world; pending = a.pending; tail = a.tail; choices = a.choices }

@@ -8,7 +8,7 @@ use Rattle.uring_model.specs.declared.rows.Row as code
 use Rattle.uring_model.specs.declared.settling.Settling.{Settling}
 use Rattle.uring_model.specs.declared.replayed.Replayed.{Replayed}
 use Rattle.uring_model.specs.Machine.{Files, FileAnswer}
-use Rattle.uring_model.specs.Jobs.{Job, asked, all_asked, buf_lent, moves_bytes}
+use Rattle.uring_model.specs.Jobs.{Job, model_job, model_jobs, buf_lent, moves_bytes}
 use Rattle.uring_model.specs.Replay.{Row, Open, Done, Result, Place, State}
 
 abbrev pub result_in : Settled → Result
@@ -19,7 +19,7 @@ row_of job marked None = Open job marked
 row_of job marked (Some settled) = Done job (result_in settled)
 
 abbrev pub row_in : code.Row → Row
-row_in row = row_of (asked row.job) row.marked row.outcome
+row_in row = row_of (model_job row.job) row.marked row.outcome
 
 abbrev pub rows_in : List code.Row → List Row
 rows_in rows = map row_in rows
@@ -52,10 +52,10 @@ abbrev pub answer_of : Settling → Files → FileAnswer
 answer_of s files = record { result = s.answered.result; buf = s.buf; world = files; marks = s.answered.marks }
 
 abbrev pub place_between : List code.Row → code.Row → List code.Row → Place
-place_between before row after = record { before = rows_in before; job = asked row.job; marked = row.marked; after = rows_in after }
+place_between before row after = record { before = rows_in before; job = model_job row.job; marked = row.marked; after = rows_in after }
 
 abbrev pub state_in : Replayed → State
-state_in replayed = record { files = replayed.files; rows = rows_in replayed.rows.items; rest = all_asked replayed.rest.items }
+state_in replayed = record { files = replayed.files; rows = rows_in replayed.rows.items; rest = model_jobs replayed.rest.items }
 
 -- the state that is left where the event took place, and none where it could not
 abbrev pub state_if : Bool → Replayed → Option State

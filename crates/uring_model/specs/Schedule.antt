@@ -1,5 +1,5 @@
 -- The schedule over any world: links, drains, choices, marks, severing, and the turn.
-use Rattle.std.specs.Prelude.{◌≡◌, ℕ, ◌/◌, ◌%◌, zero, suc, Bool, true, false, ◌&&◌, ◌||◌, not, if◌then◌else◌, cond, nat_lt, nat_eq, List, [], ◌∷◌, ◌++◌, length, drop, ℤ, negsuc, Option, Some, None, slice_get}
+use Rattle.std.specs.Prelude.{◌≡◌, ℕ, ◌/◌, ◌%◌, zero, suc, Bool, true, false, ◌&&◌, ◌||◌, not, if◌then◌else◌, cond, nat_lt, nat_eq, List, [], ◌∷◌, ◌++◌, length, drop, ℤ, Option, Some, None, slice_get}
 use Rattle.uring_base.specs.declared.buffer.Loan.{Loan}
 use Rattle.uring_base.specs.declared.events.Taken.{Taken}
 use Rattle.uring_base.specs.declared.events.Completion.{Completion}
@@ -11,6 +11,8 @@ use Rattle.uring_model.specs.Replay.{cuts, keep_if}
 use Rattle.uring_model.specs.Chosen.{choice, stops}
 use Rattle.uring_model.specs.Moves.{Move, Turned, Took, Posted}
 use Rattle.uring_model.specs.Asks.{job_of}
+use Rattle.uring_base.specs.Errnos.{error_result}
+use Rattle.uring_base.specs.declared.errno.TheConstants.{ECANCELED}
 
 abbrev pub cut_of : Option Bool → Bool
 cut_of None = false
@@ -97,7 +99,7 @@ abbrev pub idle : {W : Type 0} → W → List ℕ → State W
 idle files choices = record { world = files; pending = []; tail = None; choices = choices }
 
 abbrev pub canceled_in : {W : Type 0} → W → List ℕ → Answer W
-canceled_in w buf = record { result = negsuc 124; buf = buf; world = w; marks = None }
+canceled_in w buf = record { result = error_result ECANCELED; buf = buf; world = w; marks = None }
 
 abbrev pub after_take : {W : Type 0} → State W → Taken → State W
 after_take a t = record { world = a.world; pending = a.pending ++ record { taken = t; cut = cut_of a.tail; marked = false } ∷ []; tail = tail_for (linked (job_of t).link) false; choices = a.choices }

@@ -8,16 +8,16 @@ pub mod laws;
 mod machine;
 mod pending;
 mod replayed;
-mod request;
+mod operation;
 mod rows;
 mod settling;
 
 pub use files::Files;
 pub use jobs::{Job, JobKind, Link, Outcome, Report, RunFault};
-pub use machine::{Answered, LIMIT, perform};
+pub use machine::{Answered, MAX_FILE_LEN, perform};
 pub use pending::Pending;
 pub use replayed::{Replayed, replay};
-pub use request::{Asked, has_link, has_soft_link, is_drained, what_is_asked};
+pub use operation::{Operation, has_link, has_soft_link, is_drained, operation_of};
 pub use rows::{Row, Settled, have_counts};
 
 #[cfg(test)]

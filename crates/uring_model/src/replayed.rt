@@ -3,7 +3,7 @@
 ghost use Rattle.std.specs.Prelude.{◌≡◌, ◌↔◌, ◌++◌, ◌∷◌, [], None, IsTrue, IfOk, OnOk, option_map, replicate};
 ghost use Rattle.std.specs.List.{All};
 ghost use Rattle.std.specs.Ordering.{int_eq};
-ghost use Rattle.uring_model.specs.Jobs.{all_asked, op_asked, moves_bytes};
+ghost use Rattle.uring_model.specs.Jobs.{model_jobs, model_op, moves_bytes};
 ghost use Rattle.uring_model.specs.Replay.{replay, replay_event, take_job, post_at, place_of, last_unlinked, IsWhole};
 ghost use Rattle.uring_model.specs.Rows.{row_in, rows_in, state_in, state_if, table_told, outcomes_told, AreCounted, HasCount};
 
@@ -33,7 +33,7 @@ pub fn replay(
     journal: &[Event],
 ) -> Result<Option<Replayed>, AllocError>
     requires { All HasCount jobs.items }
-    ensures { IfOk result (λ replayed. option_map state_in replayed ≡ replay (all_asked jobs.items) files journal.now) }
+    ensures { IfOk result (λ replayed. option_map state_in replayed ≡ replay (model_jobs jobs.items) files journal.now) }
 {
     let mut replayed = Replayed {
         files,
@@ -88,7 +88,7 @@ impl Replayed {
 
     fn take_job(&mut self, number: u64) -> Result<bool, AllocError>
         requires { AreCounted self.old }
-        ensures state { IfOk result (λ went. state_if went self.new ≡ take_job (state_in self.old) number (all_asked self.old.rest.items)) }
+        ensures state { IfOk result (λ went. state_if went self.new ≡ take_job (state_in self.old) number (model_jobs self.old.rest.items)) }
         ensures counts { OnOk result (AreCounted self.new) }
     {
         if number != self.rows.len() as u64 {
@@ -160,7 +160,7 @@ fn outcome_of(row: Row) -> Option<Outcome>
 }
 
 fn moves_bytes(kind: &JobKind) -> bool
-    ensures { result ≡ moves_bytes (op_asked kind.now) }
+    ensures { result ≡ moves_bytes (model_op kind.now) }
 {
     matches!(kind, JobKind::Read { .. } | JobKind::Write { .. })
 }
@@ -177,7 +177,7 @@ fn add_open(outcomes: &mut Vec<Option<Outcome>>, count: usize) -> Result<(), All
 
 fn with_last_unlinked(mut jobs: Vec<Job>) -> Vec<Job>
     requires { All HasCount jobs.items }
-    ensures jobs { all_asked result.items ≡ last_unlinked (all_asked jobs.items) }
+    ensures jobs { model_jobs result.items ≡ last_unlinked (model_jobs jobs.items) }
     ensures counts { All HasCount result.items }
 {
     let count = jobs.len();

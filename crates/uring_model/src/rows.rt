@@ -2,7 +2,7 @@
 
 ghost use Rattle.std.specs.Prelude.{◌≡◌, ◌↔◌, [], ◌∷◌, Bool, false, IsTrue, Some};
 ghost use Rattle.std.specs.List.{All};
-ghost use Rattle.uring_model.specs.Jobs.{asked, linked, op_asked, buf_lent};
+ghost use Rattle.uring_model.specs.Jobs.{model_job, linked, model_op, buf_lent};
 ghost use Rattle.uring_model.specs.Replay.{waits, severed, drains_done, all_done, may, is_bad, due, can_mark, mark_if};
 ghost use Rattle.uring_model.specs.Rows.{row_in, rows_in, HasCount, HasCounts, is_markable};
 
@@ -36,14 +36,14 @@ fn has_count(job: &Job) -> bool
     ensures { IsTrue result ↔ HasCount job.now }
 {
     match &job.kind {
-        JobKind::Read { buf, .. } | JobKind::Write { buf, .. } => buf.len() <= 2147483647,
+        JobKind::Read { buf, .. } | JobKind::Write { buf, .. } => buf.len() <= MAX_BUFFER,
         _ => true,
     }
 }
 
 /// Whether an open job may settle that has these rows before it.
 pub fn may_settle(before: &[Row], job: &Job) -> bool
-    ensures { result ≡ may (rows_in before.now) (asked job.now) }
+    ensures { result ≡ may (rows_in before.now) (model_job job.now) }
 {
     !waits(before) && drains_done(before) && (!job.drain || all_done(before))
 }
@@ -149,14 +149,14 @@ fn has_link(link: Link) -> bool
 }
 
 fn has_gone_badly(job: &Job, outcome: i32) -> bool
-    ensures { result ≡ is_bad (asked job.now) outcome }
+    ensures { result ≡ is_bad (model_job job.now) outcome }
 {
     outcome < 0 || (outcome as usize) < least_due(&job.kind)
 }
 
 /// The result that is due at least.
 fn least_due(kind: &JobKind) -> usize
-    ensures { result ≡ due (op_asked kind.now) (buf_lent kind.now) }
+    ensures { result ≡ due (model_op kind.now) (buf_lent kind.now) }
 {
     match kind {
         JobKind::Read { buf, .. } | JobKind::Write { buf, .. } => buf.len(),

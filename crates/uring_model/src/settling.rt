@@ -1,17 +1,18 @@
 //! What the settling of a job answers.
 
 ghost use Rattle.std.specs.Prelude.{◌≡◌, ◌+◌, ◌||◌, ◌^◌, ◌<◌, length, IfOk};
-ghost use Rattle.uring_model.specs.Asked.{op_in, PartFits, FindsAs};
-ghost use Rattle.uring_model.specs.Jobs.{op_asked, buf_lent};
+ghost use Rattle.uring_model.specs.Operations.{op_in, PartFits, FindsAs};
+ghost use Rattle.uring_model.specs.Jobs.{model_op, buf_lent};
 ghost use Rattle.uring_model.specs.Replay.{settle, can_mark};
 ghost use Rattle.uring_model.specs.Rows.{rows_in, answer_of, place_between, HasCount};
 
 use crate::files::Files;
 use crate::jobs::JobKind;
 use crate::machine::{Answered, perform};
-use crate::request::Asked;
+use crate::operation::Operation;
 use crate::rows::{Row, can_mark, is_severed};
 use std::alloc::{AllocError, Global};
+use uring_base::errno::ECANCELED;
 use uring_base::Buf;
 
 /// What a settling answers, and what it leaves in the job's buffer.
@@ -35,37 +36,37 @@ pub fn settle(
     let mut buf = lent(alloc, &row.job.kind)?;
     if row.marked || is_severed(before) {
         return Ok(Settling {
-            answered: Answered::plain(-125),
+            answered: Answered::plain(-ECANCELED),
             buf,
         });
     }
-    let asked = asked_by(&row.job.kind);
-    let can_cancel = finds(asked, before, after);
-    let answered = perform(alloc, files, asked, can_cancel, buf.as_mut_slice())?;
+    let operation = operation_of_kind(&row.job.kind);
+    let can_cancel = finds(operation, before, after);
+    let answered = perform(alloc, files, operation, can_cancel, buf.as_mut_slice())?;
     Ok(Settling { answered, buf })
 }
 
 /// What a job of this kind asks.
-fn asked_by(kind: &JobKind) -> Asked
-    ensures op { op_in result ≡ op_asked kind.now }
+fn operation_of_kind(kind: &JobKind) -> Operation
+    ensures op { op_in result ≡ model_op kind.now }
     ensures fits { length (buf_lent kind.now) < 2 ^ 31 → PartFits result (buf_lent kind.now) }
 {
     match kind {
-        JobKind::Nop => Asked::Nop,
-        JobKind::Read { file, offset, .. } => Asked::Read {
+        JobKind::Nop => Operation::Nop,
+        JobKind::Read { file, offset, .. } => Operation::Read {
             file: *file,
             offset: *offset,
         },
-        JobKind::Write { file, offset, .. } => Asked::Write {
+        JobKind::Write { file, offset, .. } => Operation::Write {
             file: *file,
             offset: *offset,
         },
-        JobKind::Fsync { file } => Asked::Fsync { file: *file },
-        JobKind::Ftruncate { file, len } => Asked::Ftruncate {
+        JobKind::Fsync { file } => Operation::Fsync { file: *file },
+        JobKind::Ftruncate { file, len } => Operation::Ftruncate {
             file: *file,
             len: *len,
         },
-        JobKind::Cancel { job } => Asked::Cancel { number: *job },
+        JobKind::Cancel { job } => Operation::Cancel { number: *job },
     }
 }
 
@@ -80,11 +81,11 @@ fn lent(alloc: Global, kind: &JobKind) -> Result<Buf, AllocError>
 }
 
 /// Whether a cancel finds its job among the rows before and after it.
-fn finds(asked: Asked, before: &[Row], after: &[Row]) -> bool
-    ensures { FindsAs (λ t. can_mark t 0 (rows_in before.now) || can_mark t (length (rows_in before.now) + 1) (rows_in after.now)) result asked }
+fn finds(operation: Operation, before: &[Row], after: &[Row]) -> bool
+    ensures { FindsAs (λ t. can_mark t 0 (rows_in before.now) || can_mark t (length (rows_in before.now) + 1) (rows_in after.now)) result operation }
 {
-    match asked {
-        Asked::Cancel { number } => {
+    match operation {
+        Operation::Cancel { number } => {
             can_mark(number, 0, before) || can_mark(number, before.len() + 1, after)
         }
         _ => false,

@@ -1,6 +1,6 @@
 use crate::{
-    Asked, Files, Job, JobKind, LIMIT, Link, Outcome, Replayed, have_counts, perform, replay,
-    what_is_asked,
+    Operation, Files, Job, JobKind, LIMIT, Link, Outcome, Replayed, have_counts, perform, replay,
+    operation_of,
 };
 use std::alloc::{AllocError, Global};
 use std::test::Fail;
@@ -114,13 +114,13 @@ fn each_call(rt: HostRuntime) -> Result<(), Fail> {
     let alloc = rt.alloc();
     let mut files = one_file(alloc, 3, b"hello")?;
     let mut part = [0u8; 4];
-    let asked = Asked::Read { file: 3, offset: 3 };
-    let answered = perform(alloc, &mut files, asked, false, &mut part)?;
+    let operation = Operation::Read { file: 3, offset: 3 };
+    let answered = perform(alloc, &mut files, operation, false, &mut part)?;
     assert_eq!(rt; answered.result, 2);
     assert_eq!(rt; answered.marks, None);
     assert_eq!(rt; part, *b"lo\0\0");
-    let asked = Asked::Cancel { number: 7 };
-    let answered = perform(alloc, &mut files, asked, true, &mut part)?;
+    let operation = Operation::Cancel { number: 7 };
+    let answered = perform(alloc, &mut files, operation, true, &mut part)?;
     assert_eq!(rt; answered.result, 0);
     assert_eq!(rt; answered.marks, Some(7));
     let jobs = vec![in alloc; free(JobKind::Nop)]?;
@@ -363,8 +363,8 @@ fn entry(opcode: u8, flags: u8, op: u32) -> Entry {
     }
 }
 
-fn asked_of(entry: Entry, loan: Option<Loan>) -> Asked {
-    what_is_asked(&Taken {
+fn asked_of(entry: Entry, loan: Option<Loan>) -> Operation {
+    operation_of(&Taken {
         entry,
         big: [0; 64],
         loan,
@@ -382,27 +382,27 @@ fn entries(rt: HostRuntime) -> Result<(), Fail> {
         buf: Buf::from_slice(alloc, b"ab")?,
     };
     let again = lent.try_clone(alloc)?;
-    assert_eq!(rt; asked_of(entry(0, 0, 0), None), Asked::Nop);
+    assert_eq!(rt; asked_of(entry(0, 0, 0), None), Operation::Nop);
     assert_eq!(rt;
         asked_of(entry(22, 1, 0), Some(lent)),
-        Asked::Read { file, offset: 5 }
+        Operation::Read { file, offset: 5 }
     );
     assert_eq!(rt;
         asked_of(entry(23, 1, 0), Some(again)),
-        Asked::Write { file, offset: 5 }
+        Operation::Write { file, offset: 5 }
     );
-    assert_eq!(rt; asked_of(entry(22, 1, 0), None), Asked::Lacking);
-    assert_eq!(rt; asked_of(entry(3, 1, 0), None), Asked::Fsync { file });
+    assert_eq!(rt; asked_of(entry(22, 1, 0), None), Operation::Lacking);
+    assert_eq!(rt; asked_of(entry(3, 1, 0), None), Operation::Fsync { file });
     assert_eq!(rt;
         asked_of(entry(55, 1, 0), None),
-        Asked::Ftruncate { file, len: 5 }
+        Operation::Ftruncate { file, len: 5 }
     );
     assert_eq!(rt;
         asked_of(entry(14, 0, 0), None),
-        Asked::Cancel { number: 9 }
+        Operation::Cancel { number: 9 }
     );
-    assert_eq!(rt; asked_of(entry(14, 0, 2), None), Asked::Unknown);
-    assert_eq!(rt; asked_of(entry(0, 32, 0), None), Asked::Unknown);
-    assert_eq!(rt; asked_of(entry(24, 0, 0), None), Asked::Unknown);
+    assert_eq!(rt; asked_of(entry(14, 0, 2), None), Operation::Unknown);
+    assert_eq!(rt; asked_of(entry(0, 32, 0), None), Operation::Unknown);
+    assert_eq!(rt; asked_of(entry(24, 0, 0), None), Operation::Unknown);
     Ok(())
 }

@@ -5,9 +5,9 @@ use Rattle.std.proofs.lemmas.List.{length-take}
 use Rattle.uring_base.specs.declared.buffer.Loan.{Loan}
 use Rattle.uring_base.specs.Loans.{part_of, with_part}
 use Rattle.uring_model.specs.declared.pending.Pending.{Pending}
-use Rattle.uring_model.specs.declared.request.Asked.{Asked}
+use Rattle.uring_model.specs.declared.operation.Operation.{Operation}
 use Rattle.uring_model.specs.Machine.{Files, FileAnswer, step, canceled}
-use Rattle.uring_model.specs.Asked.{op_in, answer_in, FindsAs}
+use Rattle.uring_model.specs.Operations.{op_in, answer_in, FindsAs}
 use Rattle.uring_model.specs.Partner.{job_of, has_unmarked}
 use Rattle.uring_model.proofs.Steps.{step_finds}
 use Rattle.uring_model.proofs.Lengths.{step-length}
@@ -16,10 +16,10 @@ use Rattle.uring_partner.specs.Settling.{answered_among, bare, settled_item}
 neither : (a b : Bool) (x y : FileAnswer) → a ≡ false → b ≡ false → y ≡ cond (a || b) x y
 neither a b x y p q = rw (p, q) refl
 
-pub performed_among : (files : Files) (rest : List Pending) (i : Pending) (asked : Asked) (b : Bool) → i.marked ≡ false → i.cut ≡ false → op_in asked ≡ (job_of i.taken).op → FindsAs (λ number. has_unmarked number rest) b asked
-    → answer_in files b asked (part_of i.taken.loan) ≡ answered_among files rest i
-performed_among files rest i asked b unmarked uncut asks finds =
-    step_finds files (λ number. has_unmarked number rest) b asked (part_of i.taken.loan) finds
+pub performed_among : (files : Files) (rest : List Pending) (i : Pending) (operation : Operation) (b : Bool) → i.marked ≡ false → i.cut ≡ false → op_in operation ≡ (job_of i.taken).op → FindsAs (λ number. has_unmarked number rest) b operation
+    → answer_in files b operation (part_of i.taken.loan) ≡ answered_among files rest i
+performed_among files rest i operation b unmarked uncut asks finds =
+    step_finds files (λ number. has_unmarked number rest) b operation (part_of i.taken.loan) finds
     ∙ ap (λ op. step files (λ number. has_unmarked number rest) op (part_of i.taken.loan)) asks
     ∙ neither i.marked i.cut (canceled files (job_of i.taken).buf) (step files (λ number. has_unmarked number rest) (job_of i.taken).op (part_of i.taken.loan)) unmarked uncut
 

@@ -203,8 +203,8 @@ pub turns_rest : (ts : List Taken) (cs : List Completion) → turns (map Took ts
 turns_rest [] cs = turns_posts cs
 turns_rest (t ∷ ts) cs = turns_rest ts cs
 
-pub is_turn : (asked p : ℕ) (lists : Option Lists) (ts : List Taken) (cs : List Completion) → p ≤ asked → IfSome lists (λ l. p ≡ min asked (length l.published)) → length ts ≤ p → IsTurn asked lists (Turned p ∷ (map Took ts ++ map Posted cs))
-is_turn asked p lists ts cs fits told few = record {
+pub is_turn : (to_submit p : ℕ) (lists : Option Lists) (ts : List Taken) (cs : List Completion) → p ≤ to_submit → IfSome lists (λ l. p ≡ min to_submit (length l.published)) → length ts ≤ p → IsTurn to_submit lists (Turned p ∷ (map Took ts ++ map Posted cs))
+is_turn to_submit p lists ts cs fits told few = record {
   p = p;
   fits = fits;
   told = told;

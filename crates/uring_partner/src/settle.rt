@@ -2,7 +2,7 @@
 
 ghost use Rattle.std.specs.Prelude.{◌≡◌, if◌then◌else◌, IfOk, OnOk, OnErr, ℕ, length};
 ghost use Rattle.uring_base.specs.Loans.{part_of, with_part};
-ghost use Rattle.uring_model.specs.Asked.{op_in, answer_in, FindsAs, PartFits};
+ghost use Rattle.uring_model.specs.Operations.{op_in, answer_in, FindsAs, PartFits};
 ghost use Rattle.uring_model.specs.Partner.{job_of, has_unmarked};
 ghost use Rattle.uring_model.specs.Replay.{cuts, due, below};
 ghost use Rattle.uring_partner.specs.Settling.{answered_among, bare, settled_item};
@@ -11,7 +11,7 @@ use crate::chain::{can_mark, cuts_next};
 use std::alloc::{AllocError, Global};
 use std::collections::VecDeque;
 use uring_base::Loan;
-use uring_model::{Answered, Asked, Files, Pending, perform, what_is_asked};
+use uring_model::{Answered, Operation, Files, Pending, perform, operation_of};
 
 /// What a settling answers, whether it cuts the next entry of its chain, and a copy of the loan
 /// that it posts.
@@ -32,11 +32,11 @@ fn part_len(loan: &Option<Loan>) -> usize
 }
 
 /// The least result that an operation is due.
-fn least_due(asked: Asked, loan: &Option<Loan>) -> usize
-    ensures { result ≡ due (op_in asked) (part_of loan.now) }
+fn least_due(operation: Operation, loan: &Option<Loan>) -> usize
+    ensures { result ≡ due (op_in operation) (part_of loan.now) }
 {
-    match asked {
-        Asked::Read { .. } | Asked::Write { .. } => part_len(loan),
+    match operation {
+        Operation::Read { .. } | Operation::Write { .. } => part_len(loan),
         _ => 0,
     }
 }
@@ -47,11 +47,11 @@ fn is_below(outcome: i32, least: usize) -> bool
     outcome < 0 || (outcome as usize) < least
 }
 
-fn finds_job(rest: &VecDeque<Pending>, asked: Asked) -> bool
-    ensures { FindsAs (λ number. has_unmarked number rest.now.items) result asked }
+fn finds_job(rest: &VecDeque<Pending>, operation: Operation) -> bool
+    ensures { FindsAs (λ number. has_unmarked number rest.now.items) result operation }
 {
-    match asked {
-        Asked::Cancel { number } => can_mark(rest, number),
+    match operation {
+        Operation::Cancel { number } => can_mark(rest, number),
         _ => false,
     }
 }
@@ -59,25 +59,25 @@ fn finds_job(rest: &VecDeque<Pending>, asked: Asked) -> bool
 fn perform_on_loan(
     alloc: Global,
     files: &mut Files,
-    asked: Asked,
+    operation: Operation,
     can_cancel: bool,
     loan: &mut Option<Loan>,
 ) -> Result<Answered, AllocError>
-    requires { PartFits asked (part_of loan.old) }
-    ensures result { IfOk result (λ answered. answered.result ≡ (answer_in files.old can_cancel asked (part_of loan.old)).result) }
-    ensures marks { IfOk result (λ answered. answered.marks ≡ (answer_in files.old can_cancel asked (part_of loan.old)).marks) }
-    ensures files { OnOk result (files.new ≡ (answer_in files.old can_cancel asked (part_of loan.old)).world) }
-    ensures loan { OnOk result (loan.new ≡ with_part loan.old (answer_in files.old can_cancel asked (part_of loan.old)).buf) }
+    requires { PartFits operation (part_of loan.old) }
+    ensures result { IfOk result (λ answered. answered.result ≡ (answer_in files.old can_cancel operation (part_of loan.old)).result) }
+    ensures marks { IfOk result (λ answered. answered.marks ≡ (answer_in files.old can_cancel operation (part_of loan.old)).marks) }
+    ensures files { OnOk result (files.new ≡ (answer_in files.old can_cancel operation (part_of loan.old)).world) }
+    ensures loan { OnOk result (loan.new ≡ with_part loan.old (answer_in files.old can_cancel operation (part_of loan.old)).buf) }
     ensures err { OnErr result ((files.new ≡ files.old) × (loan.new ≡ loan.old)) }
 {
     match loan {
-        None => perform(alloc, files, asked, can_cancel, &mut []),
+        None => perform(alloc, files, operation, can_cancel, &mut []),
         Some(loan) => {
             let from = loan.buf.len().min(loan.from as usize);
             perform(
                 alloc,
                 files,
-                asked,
+                operation,
                 can_cancel,
                 &mut loan.buf.as_mut_slice()[from..],
             )
@@ -90,11 +90,11 @@ fn answer(
     alloc: Global,
     files: &mut Files,
     rest: &VecDeque<Pending>,
-    asked: Asked,
+    operation: Operation,
     item: &mut Pending,
 ) -> Result<Answered, AllocError>
-    requires fits { PartFits asked (part_of item.old.taken.loan) }
-    requires asks { op_in asked ≡ (job_of item.old.taken).op }
+    requires fits { PartFits operation (part_of item.old.taken.loan) }
+    requires asks { op_in operation ≡ (job_of item.old.taken).op }
     ensures result { IfOk result (λ answered. answered.result ≡ (answered_among files.old rest.now.items item.old).result) }
     ensures marks { IfOk result (λ answered. answered.marks ≡ (answered_among files.old rest.now.items item.old).marks) }
     ensures files { OnOk result (files.new ≡ (answered_among files.old rest.now.items item.old).world) }
@@ -104,8 +104,8 @@ fn answer(
     if item.marked || item.cut {
         return Ok(Answered::plain(-125));
     }
-    let can_cancel = finds_job(rest, asked);
-    perform_on_loan(alloc, files, asked, can_cancel, &mut item.taken.loan)
+    let can_cancel = finds_job(rest, operation);
+    perform_on_loan(alloc, files, operation, can_cancel, &mut item.taken.loan)
 }
 
 fn copy_of(alloc: Global, loan: &Option<Loan>) -> Result<Option<Loan>, AllocError>
@@ -151,12 +151,12 @@ pub fn settle(
     ensures item { OnOk result (item.new ≡ settled_item item.old (answered_among files.old rest.now.items item.old).buf) }
     ensures err { OnErr result ((files.new ≡ files.old) × (item.new ≡ item.old)) }
 {
-    let asked = what_is_asked(&item.taken);
-    let least = least_due(asked, &item.taken.loan);
+    let operation = operation_of(&item.taken);
+    let least = least_due(operation, &item.taken.loan);
     let where_bad = cuts_next(&item.taken, item.cut, true);
     let where_good = cuts_next(&item.taken, item.cut, false);
     let mut copy = copy_of(alloc, &item.taken.loan)?;
-    let answered = answer(alloc, files, rest, asked, item)?;
+    let answered = answer(alloc, files, rest, operation, item)?;
     match_copy(&mut copy, &item.taken.loan);
     let cut = either(is_below(answered.result, least), where_bad, where_good);
     Ok(Settled {
