@@ -276,4 +276,4 @@ pub explained : (jobs : List Job) (files : Files) (choices : List ℕ) (ms : Lis
     → Told (took ms ++ ahead) false (idle files choices) b (first_state jobs files) ms ahead
 explained jobs files choices ms ahead b asks numbered h =
     tells (took ms ++ ahead) false (idle files choices) b (first_state jobs files) ms ahead
-    (record { lines = []; rows = refl; rest = sym asks; world = refl; pending = refl; tail = refl; closed = tt; entries = refl; numbered = numbered }) h
+    (record { lines = []; rows = refl; rest = sym asks; files = refl; pending = refl; tail = refl; closed = tt; entries = refl; numbered = numbered }) h

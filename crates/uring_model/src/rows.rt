@@ -8,6 +8,7 @@ ghost use Rattle.uring_model.specs.Rows.{row_in, rows_in, HasCount, HasCounts, i
 
 use crate::jobs::{Job, JobKind, Link};
 use uring_base::Buf;
+use uring_base::limits::MAX_BUFFER;
 
 /// What a settled job answered. The buffer is empty where the job has none.
 #[derive(Drop)]
