@@ -15,7 +15,7 @@ pub trait Counts {
 /// What stands in the kernel's place. Where it tells its log, the log is kept, with a copy of
 /// each posted loan; where it tells its files, the clauses say what each call made of them.
 pub trait Partner: Counts {
-    ghost use Rattle.std.specs.Prelude.{◌≡◌, ◌<◌, ◌↔◌, ℕ, List, Option, Some, OnOk, IfOk, IfErr, IfSome, IsTrue, Contains, is_ok, length, slice_get};
+    ghost use Rattle.std.specs.Prelude.{◌≡◌, ◌<◌, ℕ, List, Option, Some, OnOk, IfOk, IfErr, IfSome, IsTrue, Contains, is_ok, length, min, slice_get};
     ghost use Rattle.std.specs.Option.{option_map};
     ghost use Rattle.uring_base.specs.declared.events.LogEvent.{LogEvent};
     ghost use Rattle.uring_base.specs.Causes.{HasCause};
@@ -25,7 +25,7 @@ pub trait Partner: Counts {
     ghost use Rattle.uring_model.specs.Schedule.{Machine, State};
     ghost use Rattle.uring_model.specs.Refines.{Refines};
     ghost use Rattle.uring_model.specs.Asks.{IsJobEntry};
-    ghost use Rattle.partner_traits.specs.Calls.{Enters, IsCall, Puts, IsWholeTurn, is_fault, later_plan};
+    ghost use Rattle.partner_traits.specs.Calls.{Enters, IsCall, IsFullTurn, IsPlannedFailure, KeepsErrno, Puts, is_fault, later_plan};
 
     // The events of all calls, where the partner tells them, and how many there are.
     ghost log: { Self → Option (List LogEvent) };
@@ -55,9 +55,13 @@ pub trait Partner: Counts {
     // Which of the next enters fail by plan, counted from 1.
     ghost plan: { Self → List ℕ };
 
+    // The error number of its last fault.
+    ghost errno: { Self → ℕ };
+
     /// One turn over the side: takes entries from the front of what is published, at most
-    /// `to_submit`, and posts completions only where they fit. Answers how many were taken.
-    /// After a failure the log keeps what was added before it.
+    /// `to_submit`, and posts completions only where they fit. Answers how many were taken. After a
+    /// failure the log keeps what was added before it. The flags and counters of the rings stay as
+    /// they were.
     fn enter<Q: PartnerSide>(
         &mut self,
         alloc: Global,
@@ -67,11 +71,13 @@ pub trait Partner: Counts {
         ensures moves { (ms : List Move) × Enters machine log state Q.moved self.old self.new side.old side.new ms
             × IsCall (is_ok result) call.now.to_submit (Q.lists side.old) ms
             × IfOk result (λ n. n ≡ length (took ms))
-            × OnOk result (IsWholeTurn machine (state self.old) (Q.lists side.old) ms) }
+            × OnOk result (IsFullTurn machine (state self.old) (min call.now.to_submit (Q.ready side.old)) (Q.space side.old) (Q.lists side.old) ms) }
         ensures cause { HasCause is_fault (Self.faults self.old) (Self.faults self.new) result }
         ensures planned { IfSome (state self.old) (λ _. IfErr result (λ e. IsTrue (is_fault e) → Contains (plan self.old) 1)) }
         ensures counted { IfSome (state self.old) (λ _. ¬ Contains (plan self.old) 1 → Self.faults self.new ≡ Self.faults self.old) }
-        ensures plan { plan self.new ≡ later_plan (plan self.old) };
+        ensures failure { IfSome (state self.old) (λ _. Contains (plan self.old) 1 → IsPlannedFailure log state Self.faults self.old self.new result × (side.new ≡ side.old)) }
+        ensures plan { plan self.new ≡ later_plan (plan self.old) }
+        ensures errno { KeepsErrno result (errno self.old) (errno self.new) };
 
     /// The number of events in the log.
     fn log_len(&self) -> usize
@@ -89,7 +95,7 @@ pub trait Partner: Counts {
 pub trait Seedable: Partner {
     ghost use Rattle.std.specs.Prelude.{◌≡◌, OnOk, OnErr, IfSome, IfErr, false};
     ghost use Rattle.uring_base.specs.Causes.{HasCause};
-    ghost use Rattle.partner_traits.specs.Calls.{is_fault, StateBecomes, with_choice, with_file};
+    ghost use Rattle.partner_traits.specs.Calls.{KeepsErrno, StateBecomes, is_fault, with_choice, with_file};
 
     /// Puts a file with these bytes under the number, in place of what stood there. A partner
     /// that tells its files is never at fault here.
@@ -99,7 +105,8 @@ pub trait Seedable: Partner {
         ensures log { Self.log self.new ≡ Self.log self.old }
         ensures plan { Self.plan self.new ≡ Self.plan self.old }
         ensures cause { HasCause is_fault (Self.faults self.old) (Self.faults self.new) result }
-        ensures no_fault { IfSome (Self.state self.old) (λ _. IfErr result (λ e. is_fault e ≡ false) × (Self.faults self.new ≡ Self.faults self.old)) };
+        ensures no_fault { IfSome (Self.state self.old) (λ _. IfErr result (λ e. is_fault e ≡ false) × (Self.faults self.new ≡ Self.faults self.old)) }
+        ensures errno { KeepsErrno result (Self.errno self.old) (Self.errno self.new) };
 
     /// Adds a choice behind those that are left: which of the ready entries settles after as many
     /// settlings, and whether the turn goes on after it. A partner that tells its choices is never
@@ -110,5 +117,6 @@ pub trait Seedable: Partner {
         ensures log { Self.log self.new ≡ Self.log self.old }
         ensures plan { Self.plan self.new ≡ Self.plan self.old }
         ensures cause { HasCause is_fault (Self.faults self.old) (Self.faults self.new) result }
-        ensures no_fault { IfSome (Self.state self.old) (λ _. IfErr result (λ e. is_fault e ≡ false) × (Self.faults self.new ≡ Self.faults self.old)) };
+        ensures no_fault { IfSome (Self.state self.old) (λ _. IfErr result (λ e. is_fault e ≡ false) × (Self.faults self.new ≡ Self.faults self.old)) }
+        ensures errno { KeepsErrno result (Self.errno self.old) (Self.errno self.new) };
 }
