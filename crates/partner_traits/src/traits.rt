@@ -1,9 +1,9 @@
 //! What a partner is.
 
 use crate::call::{EnterCall, PartnerError};
+use ring_traits::PartnerSide;
 use std::alloc::Global;
 use uring_base::{Buf, Event};
-use ring_traits::PartnerSide;
 
 /// Whatever counts its faults. The count never falls.
 pub trait Counts {

@@ -6,6 +6,7 @@ use Rattle.std.proofs.lemmas.Bool.Decides.{nat_tests}
 use Rattle.std.proofs.lemmas.Int.{of_z-to_z}
 use Rattle.uring_base.specs.declared.buffer.Loan.{Loan}
 use Rattle.uring_base.specs.declared.events.Taken.{Taken}
+use Rattle.uring_base.specs.declared.limits.TheConstants.{MAX_BUFFER}
 use Rattle.uring_model.specs.declared.jobs.Job.{Job}
 use Rattle.uring_model.specs.declared.jobs.JobKind.{JobKind}
 use Rattle.uring_model.specs.declared.jobs.JobKind.TheVariants.{Nop, Read, Write, Fsync, Ftruncate, Cancel}
@@ -21,7 +22,7 @@ use Rattle.uring_model.specs.Explained.{Numbered}
 use Rattle.uring_model.specs.Strange.{has_other_number}
 use Rattle.uring_model.specs.Honest.{HasOwnLoan}
 use Rattle.ring_traits.specs.Lists.{small}
-use Rattle.run_loop.specs.Entries.{words_of, with_drain, with_link, loan_of, offer_of, offers_from, all_taken, reply_in, AllValid, IsInRange, AllInRange}
+use Rattle.run_loop.specs.Entries.{job_words, with_drain, with_link, job_loan, offer_of, offers_from, all_taken, reply_in, AllValid, IsInRange, AllInRange}
 use Rattle.run_loop.specs.Told.{reply_for, lends}
 use Rattle.run_loop.specs.declared.slot.Reply.{Reply}
 use Rattle.run_loop.specs.declared.slot.Reply.TheVariants.{Plain, Buffer, Success}
@@ -32,18 +33,18 @@ use Rattle.run_loop.proofs.EntryLemmas.{valid_fits}
 file_kept : (file : ℕ) → file < 2 ^ 32 → cast_unsigned w32 (cast_signed w32 file) ≡ file
 file_kept file h = of_z-to_z w32 file h
 
-short_enough : (n : ℕ) → n ≤ 2147483647 → nat_lt 2147483647 n ≡ false
+short_enough : (n : ℕ) → n ≤ MAX_BUFFER → nat_lt MAX_BUFFER n ≡ false
 short_enough n h = grind (arith, nat_tests)
 
-lent_op : (j : ℕ) (buf : List ℕ) (op : machine.Op) → length buf ≤ 2147483647 → unless_lacking (Some (record { number = j; from = 0; buf = buf })) op ≡ op
+lent_op : (j : ℕ) (buf : List ℕ) (op : machine.Op) → length buf ≤ MAX_BUFFER → unless_lacking (Some (record { number = j; from = 0; buf = buf })) op ≡ op
 lent_op j buf op h = ap (λ b. cond b (machine.Refused 21) op) (short_enough (length buf) h)
 
 abbrev job_with : machine.Op → List ℕ → Bool → Link → model.Job
 job_with op buf drain link = record { op = op; buf = buf; drain = drain; link = link }
 
 -- an entry asks its job, whatever its marks
-asks_marked : (j : ℕ) (kind : JobKind) (drain : Bool) (link : Link) → length (buf_lent kind) ≤ 2147483647 → IsInRange kind
-    → job_of (small (record (with_link link (with_drain drain (words_of j kind))) { user_data = j }) (loan_of j kind)) ≡ job_with (model_op kind) (buf_lent kind) drain link
+asks_marked : (j : ℕ) (kind : JobKind) (drain : Bool) (link : Link) → length (buf_lent kind) ≤ MAX_BUFFER → IsInRange kind
+    → job_of (small (record (with_link link (with_drain drain (job_words j kind))) { user_data = j }) (job_loan j kind)) ≡ job_with (model_op kind) (buf_lent kind) drain link
 asks_marked j Nop true Free h r = refl
 asks_marked j Nop true Soft h r = refl
 asks_marked j Nop true Hard h r = refl
@@ -112,7 +113,7 @@ numbered_all n (job ∷ next ∷ jobs) = (refl, numbered_all (n + 1) (next ∷ j
 no_other_number : (j : ℕ) → not (nat_eq j j) ≡ false
 no_other_number j = grind (arith, nat_tests)
 
-own_number : (j : ℕ) (kind : JobKind) → has_other_number j (loan_of j kind) ≡ false
+own_number : (j : ℕ) (kind : JobKind) → has_other_number j (job_loan j kind) ≡ false
 own_number j Nop = refl
 own_number j (Read file offset buf) = no_other_number j
 own_number j (Write file offset buf) = no_other_number j
@@ -133,7 +134,7 @@ replies_here replies n reply e = ap replies (omega arith) ∙ e
 pub replies_first : (jobs : List Job) → Replies (reply_in (offers_from 0 jobs)) 0 jobs
 replies_first jobs = λ k. ap (reply_in (offers_from 0 jobs)) (omega arith)
 
-lends_given : (n : ℕ) (kind : JobKind) → lends (reply_for kind) ≡ is_some (loan_of n kind)
+lends_given : (n : ℕ) (kind : JobKind) → lends (reply_for kind) ≡ is_some (job_loan n kind)
 lends_given n Nop = refl
 lends_given n (Read file offset buf) = refl
 lends_given n (Write file offset buf) = refl
@@ -173,7 +174,7 @@ is_asked Success op = is_sync op
 abbrev pub asks : (ℕ → Reply) → Taken → Bool
 asks replies t = is_lent (replies t.entry.user_data) t.loan && is_asked (replies t.entry.user_data) (job_of t).op
 
-asks_kind : (n : ℕ) (kind : JobKind) → (is_lent (reply_for kind) (loan_of n kind) && is_asked (reply_for kind) (model_op kind)) ≡ true
+asks_kind : (n : ℕ) (kind : JobKind) → (is_lent (reply_for kind) (job_loan n kind) && is_asked (reply_for kind) (model_op kind)) ≡ true
 asks_kind n Nop = refl
 asks_kind n (Read file offset buf) = refl
 asks_kind n (Write file offset buf) = refl
@@ -181,8 +182,8 @@ asks_kind n (Fsync file) = refl
 asks_kind n (Ftruncate file len) = refl
 asks_kind n (Cancel job) = refl
 
-asks_entry : (n : ℕ) (kind : JobKind) (reply : Reply) (op : machine.Op) → reply ≡ reply_for kind → op ≡ model_op kind → (is_lent reply (loan_of n kind) && is_asked reply op) ≡ true
-asks_entry n kind reply op e f = (λ i. is_lent (e i) (loan_of n kind) && is_asked (e i) (f i)) ∙ asks_kind n kind
+asks_entry : (n : ℕ) (kind : JobKind) (reply : Reply) (op : machine.Op) → reply ≡ reply_for kind → op ≡ model_op kind → (is_lent reply (job_loan n kind) && is_asked reply op) ≡ true
+asks_entry n kind reply op e f = (λ i. is_lent (e i) (job_loan n kind) && is_asked (e i) (f i)) ∙ asks_kind n kind
 
 pub asks_list : (replies : ℕ → Reply) (n : ℕ) (jobs : List Job) → Replies replies n jobs → AllValid jobs → AllInRange jobs → AllByRecursion (λ t. asks replies t ≡ true) (all_taken (offers_from n jobs))
 asks_list replies n [] f v r = tt

@@ -2,6 +2,7 @@
 use Rattle.std.proofs.Common.{◌≡◌, ℕ, zero, suc, ◌+◌, ◌<◌, ◌≤◌, Bool, true, false, ◌&&◌, cond, nat_le, List, [], ◌∷◌, length, drop, Some, None, refl, ap, sym, subst, ◌∙◌, arith, slice_get, get_or, ◌⊎◌, inl, inr}
 use Rattle.std.proofs.lemmas.Option.{same_Some}
 use Rattle.std.proofs.lemmas.Bool.Decides.{nat_tests}
+use Rattle.uring_base.specs.declared.limits.TheConstants.{MAX_BUFFER}
 use Rattle.uring_model.specs.declared.jobs.Job.{Job}
 use Rattle.uring_model.specs.declared.jobs.JobKind.{JobKind}
 use Rattle.uring_model.specs.declared.jobs.JobKind.TheVariants.{Nop, Read, Write, Fsync, Ftruncate, Cancel}
@@ -12,10 +13,10 @@ and_first : (a b : Bool) → (a && b) ≡ true → a ≡ true
 and_first true b e = refl
 and_first false b e = e
 
-at_fits : (offset : ℕ) (buf : List ℕ) → is_valid_at offset buf ≡ true → length buf ≤ 2147483647
-at_fits offset buf e = let h : nat_le (length buf) 2147483647 ≡ true = and_first _ _ e in grind (arith, nat_tests)
+at_fits : (offset : ℕ) (buf : List ℕ) → is_valid_at offset buf ≡ true → length buf ≤ MAX_BUFFER
+at_fits offset buf e = let h : nat_le (length buf) MAX_BUFFER ≡ true = and_first _ _ e in grind (arith, nat_tests)
 
-kind_fits : (kind : JobKind) (job : Job) → job.kind ≡ kind → is_valid_job (model_job job) ≡ true → length (buf_lent kind) ≤ 2147483647
+kind_fits : (kind : JobKind) (job : Job) → job.kind ≡ kind → is_valid_job (model_job job) ≡ true → length (buf_lent kind) ≤ MAX_BUFFER
 kind_fits Nop job k e = omega arith
 kind_fits (Read file offset buf) job k e = at_fits offset buf (subst (λ x. is_valid_job (model_job (record job { kind = x })) ≡ true) k e)
 kind_fits (Write file offset buf) job k e = at_fits offset buf (subst (λ x. is_valid_job (model_job (record job { kind = x })) ≡ true) k e)
@@ -24,7 +25,7 @@ kind_fits (Ftruncate file len) job k e = omega arith
 kind_fits (Cancel j) job k e = omega arith
 
 -- a valid job's buffer is short enough for a length word
-pub valid_fits : (job : Job) → is_valid_job (model_job job) ≡ true → length (buf_lent job.kind) ≤ 2147483647
+pub valid_fits : (job : Job) → is_valid_job (model_job job) ≡ true → length (buf_lent job.kind) ≤ MAX_BUFFER
 valid_fits job e = kind_fits job.kind job refl e
 
 pub none_bad : (n : ℕ) (jobs : List Job) → first_bad n jobs ≡ None → AllValid jobs

@@ -15,7 +15,7 @@ use Rattle.run_loop.specs.declared.slot.Slot.{Slot}
 use Rattle.run_loop.specs.declared.slot.Slot.TheVariants.{Open, Done}
 use Rattle.run_loop.specs.declared.entries.Offer.{Offer}
 use Rattle.run_loop.specs.Entries.{reply_in, lends_in, offers_from}
-use Rattle.run_loop.specs.Told.{Ending, first_final, quiet_turns, reply_for, lends, outcome_from}
+use Rattle.run_loop.specs.Told.{Ending, first_final, idle_turns, reply_for, lends, outcome_from}
 use Rattle.run_loop.specs.Slots.{final_of, told_slot, slots_from, count_open, is_strange_at, is_stranger, open_slots, land_in, land_one, land_all, stranger_among, any_final}
 use Rattle.run_loop.proofs.SlotLemmas.{count_of_done, due_open}
 
@@ -213,19 +213,19 @@ same_strangers offers cs seen (Posted c ∷ ms) z t h =
     same_strangers offers (cs ++ c ∷ []) later ms z (tells_more seen cs c t) h
     ∙ ap (λ x. stranger_among seen.started x (posted ms)) (sym (lands seen.started offers cs c e)))
 
--- quiet turns
+-- idled turns
 
-pub quiet-append : (q : ℕ) (ms ns : List Move) → quiet_turns q (log_of (ms ++ ns)) ≡ quiet_turns (quiet_turns q (log_of ms)) (log_of ns)
-quiet-append q [] ns = refl
-quiet-append q (Turned p ∷ ms) ns = quiet-append (suc q) ms ns
-quiet-append q (Took t ∷ ms) ns = quiet-append q ms ns
-quiet-append q (Posted c ∷ ms) ns = quiet-append (cond (is_final c.flags) 0 q) ms ns
+pub idle_turns-append : (q : ℕ) (ms ns : List Move) → idle_turns q (log_of (ms ++ ns)) ≡ idle_turns (idle_turns q (log_of ms)) (log_of ns)
+idle_turns-append q [] ns = refl
+idle_turns-append q (Turned p ∷ ms) ns = idle_turns-append (suc q) ms ns
+idle_turns-append q (Took t ∷ ms) ns = idle_turns-append q ms ns
+idle_turns-append q (Posted c ∷ ms) ns = idle_turns-append (cond (is_final c.flags) 0 q) ms ns
 
-pub quiet_rest : (q : ℕ) (rest : List Move) → turns rest ≡ 0 → quiet_turns q (log_of rest) ≡ cond (any_final (posted rest)) 0 q
-quiet_rest q [] z = refl
-quiet_rest q (Turned p ∷ ms) z = absurd (omega arith)
-quiet_rest q (Took t ∷ ms) z = quiet_rest q ms z
-quiet_rest q (Posted c ∷ ms) z = quiet_rest (cond (is_final c.flags) 0 q) ms z ∙ joined (is_final c.flags) (any_final (posted ms)) q
+pub idle_rest : (q : ℕ) (rest : List Move) → turns rest ≡ 0 → idle_turns q (log_of rest) ≡ cond (any_final (posted rest)) 0 q
+idle_rest q [] z = refl
+idle_rest q (Turned p ∷ ms) z = absurd (omega arith)
+idle_rest q (Took t ∷ ms) z = idle_rest q ms z
+idle_rest q (Posted c ∷ ms) z = idle_rest (cond (is_final c.flags) 0 q) ms z ∙ joined (is_final c.flags) (any_final (posted ms)) q
   where
     joined : (a b : Bool) (q : ℕ) → cond b 0 (cond a 0 q) ≡ cond (a || b) 0 q
     joined true true q = refl

@@ -26,15 +26,15 @@ use Rattle.run_loop.specs.declared.entries.Offer.{Offer}
 use Rattle.run_loop.specs.declared.slot.Slot.{Slot}
 use Rattle.run_loop.specs.Entries.{all_taken, lends_in}
 use Rattle.run_loop.specs.Laws.{ModelLaws}
-use Rattle.run_loop.specs.Told.{quiet_turns}
+use Rattle.run_loop.specs.Told.{idle_turns}
 use Rattle.run_loop.specs.Slots.{final_of, slots_from, count_open, land_all, stranger_among, any_final}
 use Rattle.run_loop.specs.Rounds.{pushed_more, IsCalm, Round}
 use Rattle.run_loop.specs.Driven.{Driven, IsOpenJob, IsGivenUp}
-use Rattle.run_loop.proofs.Posts.{lands_all, Tells, seen_after, tells_after, taken_after, strange-append, same_strangers, quiet-append, quiet_rest, same_final, all_landed, none_landed, open_job, open_few, all_open, slots-length, stranger_kept, land_kept, any_kept}
+use Rattle.run_loop.proofs.Posts.{lands_all, Tells, seen_after, tells_after, taken_after, strange-append, same_strangers, idle_turns-append, idle_rest, same_final, all_landed, none_landed, open_job, open_few, all_open, slots-length, stranger_kept, land_kept, any_kept}
 
 -- The run so far: what was taken, is published and is still to offer are the offers' entries; the slots are those of the
 -- posts; none of these was strange; and the turns are few.
-pub record Running {W : Type 0} (mach : schedule.Machine W) (view : W → Files) (Plain : W → Type 0) {P R : Type 0} (log : P → Option (List LogEvent)) (state : P → Option (schedule.State W)) (lists : R → Option Lists) (first now : P) (ring : R) (room : ℕ) (todo : List Taken) (started : ℕ) (slots : List Slot) (offers : List Offer) (capacity idle quiet : ℕ) : Type 0 where
+pub record Running {W : Type 0} (mach : schedule.Machine W) (view : W → Files) (Plain : W → Type 0) {P R : Type 0} (log : P → Option (List LogEvent)) (state : P → Option (schedule.State W)) (lists : R → Option Lists) (first now : P) (ring : R) (room : ℕ) (todo : List Taken) (started : ℕ) (slots : List Slot) (offers : List Offer) (capacity idle idled : ℕ) : Type 0 where
   pub ms : List Move
   pub logs : IsLogged (log first) ms (log now)
   pub states : schedule.IsServed mach (state first) ms (state now)
@@ -45,15 +45,15 @@ pub record Running {W : Type 0} (mach : schedule.Machine W) (view : W → Files)
   pub entries : took ms ++ (l.published ++ todo) ≡ all_taken offers
   pub busy : IsBusy capacity (length offers) 0 (journal_of (log_of ms))
   pub within : TakesWithinTurns 0 ms
-  pub few : turns ms + idle * count_open slots ≤ idle * length offers + quiet
-  pub resting : count_open slots ≡ 0 → quiet ≡ 0
+  pub few : turns ms + idle * count_open slots ≤ idle * length offers + idled
+  pub resting : count_open slots ≡ 0 → idled ≡ 0
   pub told_slots : slots ≡ slots_from 0 offers (posted ms)
   pub expected : first_strange (lends_in offers) nothing_seen (log_of ms) ≡ None
-  pub quiet_is : quiet ≡ quiet_turns 0 (log_of ms)
+  pub idled_is : idled ≡ idle_turns 0 (log_of ms)
   pub started_is : started ≡ length (took ms) + length l.published
   pub holds : (0 < l.capacity) × (0 < l.completion_capacity)
   pub six : AllByRecursion IsJobEntry (all_taken offers)
-  pub prompt : (a : schedule.State W) → state first ≡ Some a → IsIdle Plain a → (quiet ≡ 0) × (count_open slots + length (posted ms) ≡ length offers) × (turns ms ≤ length (posted ms))
+  pub prompt : (a : schedule.State W) → state first ≡ Some a → IsIdle Plain a → (idled ≡ 0) × (count_open slots + length (posted ms) ≡ length offers) × (turns ms ≤ length (posted ms))
 
 -- turns that begin with the ring full or all offers pushed
 
@@ -145,8 +145,8 @@ call_strange offers ms p rest started slots e z k inside s =
     ∙ same_strangers offers (posted ms) (record seen { started = started }) rest z (tells_after nothing_seen [] ms nothing_told) inside
     ∙ ap (λ x. stranger_among started x (posted rest)) (sym s)
 
-call_quiet : (ms : List Move) (p : ℕ) (rest : List Move) (q : ℕ) → turns rest ≡ 0 → q ≡ quiet_turns 0 (log_of ms) → quiet_turns 0 (log_of (ms ++ Turned p ∷ rest)) ≡ cond (any_final (posted rest)) 0 (q + 1)
-call_quiet ms p rest q z e = quiet-append 0 ms (Turned p ∷ rest) ∙ quiet_rest (suc (quiet_turns 0 (log_of ms))) rest z ∙ ap (cond (any_final (posted rest)) 0) (let h : q ≡ quiet_turns 0 (log_of ms) = e in omega arith)
+call_idle : (ms : List Move) (p : ℕ) (rest : List Move) (q : ℕ) → turns rest ≡ 0 → q ≡ idle_turns 0 (log_of ms) → idle_turns 0 (log_of (ms ++ Turned p ∷ rest)) ≡ cond (any_final (posted rest)) 0 (q + 1)
+call_idle ms p rest q z e = idle_turns-append 0 ms (Turned p ∷ rest) ∙ idle_rest (suc (idle_turns 0 (log_of ms))) rest z ∙ ap (cond (any_final (posted rest)) 0) (let h : q ≡ idle_turns 0 (log_of ms) = e in omega arith)
 
 -- what any call adds, whether it failed or not
 
@@ -192,104 +192,104 @@ call_turns c n k started ms h = elim h [
 ]
 
 -- a run and one more round
-pub record Next {W : Type 0} (mach : schedule.Machine W) (view : W → Files) (Plain : W → Type 0) {P R : Type 0} (log : P → Option (List LogEvent)) (state : P → Option (schedule.State W)) (lists : R → Option Lists) (kept : Completion → Completion) (first now new : P) (from to : R) (room : ℕ) (todo todo' : List Taken) (started started' : ℕ) (slots slots' : List Slot) (offers : List Offer) (capacity idle quiet : ℕ) (answer : Result Bool RunFault) : Type 0 where
+pub record Next {W : Type 0} (mach : schedule.Machine W) (view : W → Files) (Plain : W → Type 0) {P R : Type 0} (log : P → Option (List LogEvent)) (state : P → Option (schedule.State W)) (lists : R → Option Lists) (kept : Completion → Completion) (first now new : P) (from to : R) (room : ℕ) (todo todo' : List Taken) (started started' : ℕ) (slots slots' : List Slot) (offers : List Offer) (capacity idle idled : ℕ) (answer : Result Bool RunFault) : Type 0 where
   pub laws : ModelLaws mach view Plain
-  pub run : Running mach view Plain log state lists first now from room todo started slots offers capacity idle quiet
+  pub run : Running mach view Plain log state lists first now from room todo started slots offers capacity idle idled
   pub round : Round mach log state lists kept now new from to todo todo' started' slots slots' answer
   pub keeps : (c : Completion) → IsKept c (kept c)
   pub count : started' + length todo' ≡ started + length todo
   pub unfinished : 0 < count_open slots
-  pub waits : quiet + 1 ≤ idle
+  pub waits : idled + 1 ≤ idle
 
-same_lists : {W : Type 0} (mach : schedule.Machine W) (view : W → Files) (Plain : W → Type 0) {P R : Type 0} (log : P → Option (List LogEvent)) (state : P → Option (schedule.State W)) (lists : R → Option Lists) (kept : Completion → Completion) (first now new : P) (from to : R) (room : ℕ) (todo todo' : List Taken) (started started' : ℕ) (slots slots' : List Slot) (offers : List Offer) (capacity idle quiet : ℕ) (answer : Result Bool RunFault) (x : Next mach view Plain log state lists kept first now new from to room todo todo' started started' slots slots' offers capacity idle quiet answer) → x.round.before ≡ x.run.l
-same_lists mach view Plain log state lists kept first now new from to room todo todo' started started' slots slots' offers capacity idle quiet answer x =
+same_lists : {W : Type 0} (mach : schedule.Machine W) (view : W → Files) (Plain : W → Type 0) {P R : Type 0} (log : P → Option (List LogEvent)) (state : P → Option (schedule.State W)) (lists : R → Option Lists) (kept : Completion → Completion) (first now new : P) (from to : R) (room : ℕ) (todo todo' : List Taken) (started started' : ℕ) (slots slots' : List Slot) (offers : List Offer) (capacity idle idled : ℕ) (answer : Result Bool RunFault) (x : Next mach view Plain log state lists kept first now new from to room todo todo' started started' slots slots' offers capacity idle idled answer) → x.round.before ≡ x.run.l
+same_lists mach view Plain log state lists kept first now new from to room todo todo' started started' slots slots' offers capacity idle idled answer x =
     told_same (lists from) x.round.before x.run.l x.round.told_before x.run.told
 
-at_published : {W : Type 0} (mach : schedule.Machine W) (view : W → Files) (Plain : W → Type 0) {P R : Type 0} (log : P → Option (List LogEvent)) (state : P → Option (schedule.State W)) (lists : R → Option Lists) (kept : Completion → Completion) (first now new : P) (from to : R) (room : ℕ) (todo todo' : List Taken) (started started' : ℕ) (slots slots' : List Slot) (offers : List Offer) (capacity idle quiet : ℕ) (answer : Result Bool RunFault) (x : Next mach view Plain log state lists kept first now new from to room todo todo' started started' slots slots' offers capacity idle quiet answer) → x.round.at.published ≡ x.run.l.published ++ x.round.ts
-at_published mach view Plain log state lists kept first now new from to room todo todo' started started' slots slots' offers capacity idle quiet answer x =
+at_published : {W : Type 0} (mach : schedule.Machine W) (view : W → Files) (Plain : W → Type 0) {P R : Type 0} (log : P → Option (List LogEvent)) (state : P → Option (schedule.State W)) (lists : R → Option Lists) (kept : Completion → Completion) (first now new : P) (from to : R) (room : ℕ) (todo todo' : List Taken) (started started' : ℕ) (slots slots' : List Slot) (offers : List Offer) (capacity idle idled : ℕ) (answer : Result Bool RunFault) (x : Next mach view Plain log state lists kept first now new from to room todo todo' started started' slots slots' offers capacity idle idled answer) → x.round.at.published ≡ x.run.l.published ++ x.round.ts
+at_published mach view Plain log state lists kept first now new from to room todo todo' started started' slots slots' offers capacity idle idled answer x =
     ap (λ l. l.published) x.round.published
-    ∙ ap (λ l. l.published ++ (l.pushed ++ x.round.ts)) (same_lists mach view Plain log state lists kept first now new from to room todo todo' started started' slots slots' offers capacity idle quiet answer x)
+    ∙ ap (λ l. l.published ++ (l.pushed ++ x.round.ts)) (same_lists mach view Plain log state lists kept first now new from to room todo todo' started started' slots slots' offers capacity idle idled answer x)
     ∙ ap (λ y. x.run.l.published ++ (y ++ x.round.ts)) x.run.calm.pushed
 
-next_entries : {W : Type 0} (mach : schedule.Machine W) (view : W → Files) (Plain : W → Type 0) {P R : Type 0} (log : P → Option (List LogEvent)) (state : P → Option (schedule.State W)) (lists : R → Option Lists) (kept : Completion → Completion) (first now new : P) (from to : R) (room : ℕ) (todo todo' : List Taken) (started started' : ℕ) (slots slots' : List Slot) (offers : List Offer) (capacity idle quiet : ℕ) (answer : Result Bool RunFault) (x : Next mach view Plain log state lists kept first now new from to room todo todo' started started' slots slots' offers capacity idle quiet answer) → took (x.run.ms ++ x.round.ms) ++ (x.round.after.published ++ todo') ≡ all_taken offers
-next_entries mach view Plain log state lists kept first now new from to room todo todo' started started' slots slots' offers capacity idle quiet answer x =
+next_entries : {W : Type 0} (mach : schedule.Machine W) (view : W → Files) (Plain : W → Type 0) {P R : Type 0} (log : P → Option (List LogEvent)) (state : P → Option (schedule.State W)) (lists : R → Option Lists) (kept : Completion → Completion) (first now new : P) (from to : R) (room : ℕ) (todo todo' : List Taken) (started started' : ℕ) (slots slots' : List Slot) (offers : List Offer) (capacity idle idled : ℕ) (answer : Result Bool RunFault) (x : Next mach view Plain log state lists kept first now new from to room todo todo' started started' slots slots' offers capacity idle idled answer) → took (x.run.ms ++ x.round.ms) ++ (x.round.after.published ++ todo') ≡ all_taken offers
+next_entries mach view Plain log state lists kept first now new from to room todo todo' started started' slots slots' offers capacity idle idled answer x =
     ap (λ l. l ++ (x.round.after.published ++ todo')) (x.laws.join.takes x.run.ms x.round.ms)
     ∙ append_assoc (took x.run.ms) (took x.round.ms) (x.round.after.published ++ todo')
     ∙ ap (λ l. took x.run.ms ++ l)
     (sym (append_assoc (took x.round.ms) x.round.after.published todo')
-    ∙ ap (λ l. l ++ todo') (sym x.round.taken ∙ at_published mach view Plain log state lists kept first now new from to room todo todo' started started' slots slots' offers capacity idle quiet answer x)
+    ∙ ap (λ l. l ++ todo') (sym x.round.taken ∙ at_published mach view Plain log state lists kept first now new from to room todo todo' started started' slots slots' offers capacity idle idled answer x)
     ∙ append_assoc x.run.l.published x.round.ts todo'
     ∙ ap (λ l. x.run.l.published ++ l) (sym x.round.offered))
     ∙ x.run.entries
 
-next_called : {W : Type 0} (mach : schedule.Machine W) (view : W → Files) (Plain : W → Type 0) {P R : Type 0} (log : P → Option (List LogEvent)) (state : P → Option (schedule.State W)) (lists : R → Option Lists) (kept : Completion → Completion) (first now new : P) (from to : R) (room : ℕ) (todo todo' : List Taken) (started started' : ℕ) (slots slots' : List Slot) (offers : List Offer) (capacity idle quiet : ℕ) (answer : Result Bool RunFault) (x : Next mach view Plain log state lists kept first now new from to room todo todo' started started' slots slots' offers capacity idle quiet answer) → (x.round.ms ≡ []) ⊎ Called (length offers) (length (took x.run.ms)) started' x.run.l.capacity x.round.ms
-next_called mach view Plain log state lists kept first now new from to room todo todo' started started' slots slots' offers capacity idle quiet answer x =
+next_called : {W : Type 0} (mach : schedule.Machine W) (view : W → Files) (Plain : W → Type 0) {P R : Type 0} (log : P → Option (List LogEvent)) (state : P → Option (schedule.State W)) (lists : R → Option Lists) (kept : Completion → Completion) (first now new : P) (from to : R) (room : ℕ) (todo todo' : List Taken) (started started' : ℕ) (slots slots' : List Slot) (offers : List Offer) (capacity idle idled : ℕ) (answer : Result Bool RunFault) (x : Next mach view Plain log state lists kept first now new from to room todo todo' started started' slots slots' offers capacity idle idled answer) → (x.round.ms ≡ []) ⊎ Called (length offers) (length (took x.run.ms)) started' x.run.l.capacity x.round.ms
+next_called mach view Plain log state lists kept first now new from to room todo todo' started started' slots slots' offers capacity idle idled answer x =
     let here : length (took x.run.ms) + length (x.run.l.published ++ todo) ≡ length offers = ap (λ y. length (took x.run.ms) + y) (length-append x.run.l.published todo) ∙ counts offers x.run.ms x.run.l.published todo x.run.entries in
-    called_or x.round.to_submit x.round.entered x.round.before x.run.l x.round.at x.round.ts todo todo' x.round.ms (length offers) (length (took x.run.ms)) started started' (same_lists mach view Plain log state lists kept first now new from to room todo todo' started started' slots slots' offers capacity idle quiet answer x) x.round.published x.round.fits x.run.calm.pushed x.round.offered x.round.full here x.run.started_is x.count x.round.enough x.round.call
+    called_or x.round.to_submit x.round.entered x.round.before x.run.l x.round.at x.round.ts todo todo' x.round.ms (length offers) (length (took x.run.ms)) started started' (same_lists mach view Plain log state lists kept first now new from to room todo todo' started started' slots slots' offers capacity idle idled answer x) x.round.published x.round.fits x.run.calm.pushed x.round.offered x.round.full here x.run.started_is x.count x.round.enough x.round.call
 
-next_entered : {W : Type 0} (mach : schedule.Machine W) (view : W → Files) (Plain : W → Type 0) {P R : Type 0} (log : P → Option (List LogEvent)) (state : P → Option (schedule.State W)) (lists : R → Option Lists) (kept : Completion → Completion) (first now new : P) (from to : R) (room : ℕ) (todo todo' : List Taken) (started started' : ℕ) (slots slots' : List Slot) (offers : List Offer) (capacity idle quiet : ℕ) (answer : Result Bool RunFault) (x : Next mach view Plain log state lists kept first now new from to room todo todo' started started' slots slots' offers capacity idle quiet answer) → x.round.entered ≡ true → Called (length offers) (length (took x.run.ms)) started' x.run.l.capacity x.round.ms
-next_entered mach view Plain log state lists kept first now new from to room todo todo' started started' slots slots' offers capacity idle quiet answer x e =
+next_entered : {W : Type 0} (mach : schedule.Machine W) (view : W → Files) (Plain : W → Type 0) {P R : Type 0} (log : P → Option (List LogEvent)) (state : P → Option (schedule.State W)) (lists : R → Option Lists) (kept : Completion → Completion) (first now new : P) (from to : R) (room : ℕ) (todo todo' : List Taken) (started started' : ℕ) (slots slots' : List Slot) (offers : List Offer) (capacity idle idled : ℕ) (answer : Result Bool RunFault) (x : Next mach view Plain log state lists kept first now new from to room todo todo' started started' slots slots' offers capacity idle idled answer) → x.round.entered ≡ true → Called (length offers) (length (took x.run.ms)) started' x.run.l.capacity x.round.ms
+next_entered mach view Plain log state lists kept first now new from to room todo todo' started started' slots slots' offers capacity idle idled answer x e =
     let here : length (took x.run.ms) + length (x.run.l.published ++ todo) ≡ length offers = ap (λ y. length (took x.run.ms) + y) (length-append x.run.l.published todo) ∙ counts offers x.run.ms x.run.l.published todo x.run.entries in
-    called_turn x.round.to_submit x.round.before x.run.l x.round.at x.round.ts todo todo' x.round.ms (length offers) (length (took x.run.ms)) started started' (same_lists mach view Plain log state lists kept first now new from to room todo todo' started started' slots slots' offers capacity idle quiet answer x) x.round.published x.round.fits x.run.calm.pushed x.round.offered x.round.full here x.run.started_is x.count x.round.enough (subst (λ b. IsCall b x.round.to_submit (Some x.round.at) x.round.ms) e x.round.call)
+    called_turn x.round.to_submit x.round.before x.run.l x.round.at x.round.ts todo todo' x.round.ms (length offers) (length (took x.run.ms)) started started' (same_lists mach view Plain log state lists kept first now new from to room todo todo' started started' slots slots' offers capacity idle idled answer x) x.round.published x.round.fits x.run.calm.pushed x.round.offered x.round.full here x.run.started_is x.count x.round.enough (subst (λ b. IsCall b x.round.to_submit (Some x.round.at) x.round.ms) e x.round.call)
 
-next_busy : {W : Type 0} (mach : schedule.Machine W) (view : W → Files) (Plain : W → Type 0) {P R : Type 0} (log : P → Option (List LogEvent)) (state : P → Option (schedule.State W)) (lists : R → Option Lists) (kept : Completion → Completion) (first now new : P) (from to : R) (room : ℕ) (todo todo' : List Taken) (started started' : ℕ) (slots slots' : List Slot) (offers : List Offer) (capacity idle quiet : ℕ) (answer : Result Bool RunFault) (x : Next mach view Plain log state lists kept first now new from to room todo todo' started started' slots slots' offers capacity idle quiet answer) → IsBusy capacity (length offers) 0 (journal_of (log_of (x.run.ms ++ x.round.ms)))
-next_busy mach view Plain log state lists kept first now new from to room todo todo' started started' slots slots' offers capacity idle quiet answer x =
-    let c = next_called mach view Plain log state lists kept first now new from to room todo todo' started started' slots slots' offers capacity idle quiet answer x in
+next_busy : {W : Type 0} (mach : schedule.Machine W) (view : W → Files) (Plain : W → Type 0) {P R : Type 0} (log : P → Option (List LogEvent)) (state : P → Option (schedule.State W)) (lists : R → Option Lists) (kept : Completion → Completion) (first now new : P) (from to : R) (room : ℕ) (todo todo' : List Taken) (started started' : ℕ) (slots slots' : List Slot) (offers : List Offer) (capacity idle idled : ℕ) (answer : Result Bool RunFault) (x : Next mach view Plain log state lists kept first now new from to room todo todo' started started' slots slots' offers capacity idle idled answer) → IsBusy capacity (length offers) 0 (journal_of (log_of (x.run.ms ++ x.round.ms)))
+next_busy mach view Plain log state lists kept first now new from to room todo todo' started started' slots slots' offers capacity idle idled answer x =
+    let c = next_called mach view Plain log state lists kept first now new from to room todo todo' started started' slots slots' offers capacity idle idled answer x in
     let b = call_busy x.run.l.capacity (length offers) (length (took x.run.ms)) started' x.round.ms c in
     busy_append capacity (length offers) 0 x.run.ms x.round.ms x.run.busy
     (subst (λ k. IsBusy capacity (length offers) k (journal_of (log_of x.round.ms))) (omega arith)
     (subst (λ c. IsBusy c (length offers) (length (took x.run.ms)) (journal_of (log_of x.round.ms))) x.run.size b))
 
-next_within : {W : Type 0} (mach : schedule.Machine W) (view : W → Files) (Plain : W → Type 0) {P R : Type 0} (log : P → Option (List LogEvent)) (state : P → Option (schedule.State W)) (lists : R → Option Lists) (kept : Completion → Completion) (first now new : P) (from to : R) (room : ℕ) (todo todo' : List Taken) (started started' : ℕ) (slots slots' : List Slot) (offers : List Offer) (capacity idle quiet : ℕ) (answer : Result Bool RunFault) (x : Next mach view Plain log state lists kept first now new from to room todo todo' started started' slots slots' offers capacity idle quiet answer) → TakesWithinTurns 0 (x.run.ms ++ x.round.ms)
-next_within mach view Plain log state lists kept first now new from to room todo todo' started started' slots slots' offers capacity idle quiet answer x =
-    x.laws.join.within 0 x.run.ms x.round.ms x.run.within (call_within x.run.l.capacity (length offers) (length (took x.run.ms)) started' x.round.ms (next_called mach view Plain log state lists kept first now new from to room todo todo' started started' slots slots' offers capacity idle quiet answer x))
+next_within : {W : Type 0} (mach : schedule.Machine W) (view : W → Files) (Plain : W → Type 0) {P R : Type 0} (log : P → Option (List LogEvent)) (state : P → Option (schedule.State W)) (lists : R → Option Lists) (kept : Completion → Completion) (first now new : P) (from to : R) (room : ℕ) (todo todo' : List Taken) (started started' : ℕ) (slots slots' : List Slot) (offers : List Offer) (capacity idle idled : ℕ) (answer : Result Bool RunFault) (x : Next mach view Plain log state lists kept first now new from to room todo todo' started started' slots slots' offers capacity idle idled answer) → TakesWithinTurns 0 (x.run.ms ++ x.round.ms)
+next_within mach view Plain log state lists kept first now new from to room todo todo' started started' slots slots' offers capacity idle idled answer x =
+    x.laws.join.within 0 x.run.ms x.round.ms x.run.within (call_within x.run.l.capacity (length offers) (length (took x.run.ms)) started' x.round.ms (next_called mach view Plain log state lists kept first now new from to room todo todo' started started' slots slots' offers capacity idle idled answer x))
 
-next_inside : {W : Type 0} (mach : schedule.Machine W) (view : W → Files) (Plain : W → Type 0) {P R : Type 0} (log : P → Option (List LogEvent)) (state : P → Option (schedule.State W)) (lists : R → Option Lists) (kept : Completion → Completion) (first now new : P) (from to : R) (room : ℕ) (todo todo' : List Taken) (started started' : ℕ) (slots slots' : List Slot) (offers : List Offer) (capacity idle quiet : ℕ) (answer : Result Bool RunFault) (x : Next mach view Plain log state lists kept first now new from to room todo todo' started started' slots slots' offers capacity idle quiet answer) → started' ≤ length offers
-next_inside mach view Plain log state lists kept first now new from to room todo todo' started started' slots slots' offers capacity idle quiet answer x =
+next_inside : {W : Type 0} (mach : schedule.Machine W) (view : W → Files) (Plain : W → Type 0) {P R : Type 0} (log : P → Option (List LogEvent)) (state : P → Option (schedule.State W)) (lists : R → Option Lists) (kept : Completion → Completion) (first now new : P) (from to : R) (room : ℕ) (todo todo' : List Taken) (started started' : ℕ) (slots slots' : List Slot) (offers : List Offer) (capacity idle idled : ℕ) (answer : Result Bool RunFault) (x : Next mach view Plain log state lists kept first now new from to room todo todo' started started' slots slots' offers capacity idle idled answer) → started' ≤ length offers
+next_inside mach view Plain log state lists kept first now new from to room todo todo' started started' slots slots' offers capacity idle idled answer x =
     omega (arith, counts offers x.run.ms x.run.l.published todo x.run.entries, x.run.started_is, x.count)
 
-next_strange : {W : Type 0} (mach : schedule.Machine W) (view : W → Files) (Plain : W → Type 0) {P R : Type 0} (log : P → Option (List LogEvent)) (state : P → Option (schedule.State W)) (lists : R → Option Lists) (kept : Completion → Completion) (first now new : P) (from to : R) (room : ℕ) (todo todo' : List Taken) (started started' : ℕ) (slots slots' : List Slot) (offers : List Offer) (capacity idle quiet : ℕ) (answer : Result Bool RunFault) (x : Next mach view Plain log state lists kept first now new from to room todo todo' started started' slots slots' offers capacity idle quiet answer) → x.round.entered ≡ true → first_strange (lends_in offers) nothing_seen (log_of (x.run.ms ++ x.round.ms)) ≡ stranger_among started' slots (map kept (posted x.round.ms))
-next_strange mach view Plain log state lists kept first now new from to room todo todo' started started' slots slots' offers capacity idle quiet answer x e =
-    let c = next_entered mach view Plain log state lists kept first now new from to room todo todo' started started' slots slots' offers capacity idle quiet answer x e in
+next_strange : {W : Type 0} (mach : schedule.Machine W) (view : W → Files) (Plain : W → Type 0) {P R : Type 0} (log : P → Option (List LogEvent)) (state : P → Option (schedule.State W)) (lists : R → Option Lists) (kept : Completion → Completion) (first now new : P) (from to : R) (room : ℕ) (todo todo' : List Taken) (started started' : ℕ) (slots slots' : List Slot) (offers : List Offer) (capacity idle idled : ℕ) (answer : Result Bool RunFault) (x : Next mach view Plain log state lists kept first now new from to room todo todo' started started' slots slots' offers capacity idle idled answer) → x.round.entered ≡ true → first_strange (lends_in offers) nothing_seen (log_of (x.run.ms ++ x.round.ms)) ≡ stranger_among started' slots (map kept (posted x.round.ms))
+next_strange mach view Plain log state lists kept first now new from to room todo todo' started started' slots slots' offers capacity idle idled answer x e =
+    let c = next_entered mach view Plain log state lists kept first now new from to room todo todo' started started' slots slots' offers capacity idle idled answer x e in
     ap (λ ms. first_strange (lends_in offers) nothing_seen (log_of (x.run.ms ++ ms))) c.moves
-    ∙ call_strange offers x.run.ms c.p c.rest started' slots x.run.expected c.one c.all (next_inside mach view Plain log state lists kept first now new from to room todo todo' started started' slots slots' offers capacity idle quiet answer x) x.run.told_slots
+    ∙ call_strange offers x.run.ms c.p c.rest started' slots x.run.expected c.one c.all (next_inside mach view Plain log state lists kept first now new from to room todo todo' started started' slots slots' offers capacity idle idled answer x) x.run.told_slots
     ∙ ap (λ ms. stranger_among started' slots (posted ms)) (sym c.moves)
     ∙ sym (stranger_kept kept x.keeps started' slots (posted x.round.ms))
 
-next_ran : {W : Type 0} (mach : schedule.Machine W) (view : W → Files) (Plain : W → Type 0) {P R : Type 0} (log : P → Option (List LogEvent)) (state : P → Option (schedule.State W)) (lists : R → Option Lists) (kept : Completion → Completion) (first now new : P) (from to : R) (room : ℕ) (todo todo' : List Taken) (started started' : ℕ) (slots slots' : List Slot) (offers : List Offer) (capacity idle quiet : ℕ) (answer : Result Bool RunFault) (x : Next mach view Plain log state lists kept first now new from to room todo todo' started started' slots slots' offers capacity idle quiet answer) → Driven mach log state first new offers capacity idle
-next_ran mach view Plain log state lists kept first now new from to room todo todo' started started' slots slots' offers capacity idle quiet answer x =
+next_ran : {W : Type 0} (mach : schedule.Machine W) (view : W → Files) (Plain : W → Type 0) {P R : Type 0} (log : P → Option (List LogEvent)) (state : P → Option (schedule.State W)) (lists : R → Option Lists) (kept : Completion → Completion) (first now new : P) (from to : R) (room : ℕ) (todo todo' : List Taken) (started started' : ℕ) (slots slots' : List Slot) (offers : List Offer) (capacity idle idled : ℕ) (answer : Result Bool RunFault) (x : Next mach view Plain log state lists kept first now new from to room todo todo' started started' slots slots' offers capacity idle idled answer) → Driven mach log state first new offers capacity idle
+next_ran mach view Plain log state lists kept first now new from to room todo todo' started started' slots slots' offers capacity idle idled answer x =
     record {
       moves = x.run.ms ++ x.round.ms;
       ahead = x.round.after.published ++ todo';
       logs = x.laws.join.logs (log first) (log now) (log new) x.run.ms x.round.ms x.run.logs x.round.logs;
       states = x.laws.world.join (state first) (state now) (state new) x.run.ms x.round.ms x.run.states x.round.states;
-      entries = next_entries mach view Plain log state lists kept first now new from to room todo todo' started started' slots slots' offers capacity idle quiet answer x;
-      busy = next_busy mach view Plain log state lists kept first now new from to room todo todo' started started' slots slots' offers capacity idle quiet answer x;
-      within = next_within mach view Plain log state lists kept first now new from to room todo todo' started started' slots slots' offers capacity idle quiet answer x;
-      few = let t = call_turns x.run.l.capacity (length offers) (length (took x.run.ms)) started' x.round.ms (next_called mach view Plain log state lists kept first now new from to room todo todo' started started' slots slots' offers capacity idle quiet answer x) in subst (λ k. k ≤ idle * length offers) (sym (x.laws.join.turning x.run.ms x.round.ms)) (few_last idle (length offers) (turns x.run.ms) (count_open slots) quiet (turns x.round.ms) x.run.few x.unfinished x.waits t);
+      entries = next_entries mach view Plain log state lists kept first now new from to room todo todo' started started' slots slots' offers capacity idle idled answer x;
+      busy = next_busy mach view Plain log state lists kept first now new from to room todo todo' started started' slots slots' offers capacity idle idled answer x;
+      within = next_within mach view Plain log state lists kept first now new from to room todo todo' started started' slots slots' offers capacity idle idled answer x;
+      few = let t = call_turns x.run.l.capacity (length offers) (length (took x.run.ms)) started' x.round.ms (next_called mach view Plain log state lists kept first now new from to room todo todo' started started' slots slots' offers capacity idle idled answer x) in subst (λ k. k ≤ idle * length offers) (sym (x.laws.join.turning x.run.ms x.round.ms)) (few_last idle (length offers) (turns x.run.ms) (count_open slots) idled (turns x.round.ms) x.run.few x.unfinished x.waits t);
     }
 
 -- a round that ends well
 
-next_posts : {W : Type 0} (mach : schedule.Machine W) (view : W → Files) (Plain : W → Type 0) {P R : Type 0} (log : P → Option (List LogEvent)) (state : P → Option (schedule.State W)) (lists : R → Option Lists) (kept : Completion → Completion) (first now new : P) (from to : R) (room : ℕ) (todo todo' : List Taken) (started started' : ℕ) (slots slots' : List Slot) (offers : List Offer) (capacity idle quiet : ℕ) (fin : Bool) (x : Next mach view Plain log state lists kept first now new from to room todo todo' started started' slots slots' offers capacity idle quiet (Ok fin)) → stranger_among started' (slots_from 0 offers (posted x.run.ms)) (posted x.round.ms) ≡ None
-next_posts mach view Plain log state lists kept first now new from to room todo todo' started started' slots slots' offers capacity idle quiet fin x =
+next_posts : {W : Type 0} (mach : schedule.Machine W) (view : W → Files) (Plain : W → Type 0) {P R : Type 0} (log : P → Option (List LogEvent)) (state : P → Option (schedule.State W)) (lists : R → Option Lists) (kept : Completion → Completion) (first now new : P) (from to : R) (room : ℕ) (todo todo' : List Taken) (started started' : ℕ) (slots slots' : List Slot) (offers : List Offer) (capacity idle idled : ℕ) (fin : Bool) (x : Next mach view Plain log state lists kept first now new from to room todo todo' started started' slots slots' offers capacity idle idled (Ok fin)) → stranger_among started' (slots_from 0 offers (posted x.run.ms)) (posted x.round.ms) ≡ None
+next_posts mach view Plain log state lists kept first now new from to room todo todo' started started' slots slots' offers capacity idle idled fin x =
     ap (λ y. stranger_among started' y (posted x.round.ms)) (sym x.run.told_slots)
     ∙ sym (stranger_kept kept x.keeps started' slots (posted x.round.ms))
     ∙ x.round.ends.1
 
-next_slots : {W : Type 0} (mach : schedule.Machine W) (view : W → Files) (Plain : W → Type 0) {P R : Type 0} (log : P → Option (List LogEvent)) (state : P → Option (schedule.State W)) (lists : R → Option Lists) (kept : Completion → Completion) (first now new : P) (from to : R) (room : ℕ) (todo todo' : List Taken) (started started' : ℕ) (slots slots' : List Slot) (offers : List Offer) (capacity idle quiet : ℕ) (fin : Bool) (x : Next mach view Plain log state lists kept first now new from to room todo todo' started started' slots slots' offers capacity idle quiet (Ok fin)) → slots' ≡ land_all slots (posted x.round.ms)
-next_slots mach view Plain log state lists kept first now new from to room todo todo' started started' slots slots' offers capacity idle quiet fin x =
+next_slots : {W : Type 0} (mach : schedule.Machine W) (view : W → Files) (Plain : W → Type 0) {P R : Type 0} (log : P → Option (List LogEvent)) (state : P → Option (schedule.State W)) (lists : R → Option Lists) (kept : Completion → Completion) (first now new : P) (from to : R) (room : ℕ) (todo todo' : List Taken) (started started' : ℕ) (slots slots' : List Slot) (offers : List Offer) (capacity idle idled : ℕ) (fin : Bool) (x : Next mach view Plain log state lists kept first now new from to room todo todo' started started' slots slots' offers capacity idle idled (Ok fin)) → slots' ≡ land_all slots (posted x.round.ms)
+next_slots mach view Plain log state lists kept first now new from to room todo todo' started started' slots slots' offers capacity idle idled fin x =
     x.round.ends.2 ∙ land_kept kept x.keeps slots (posted x.round.ms)
 
-next_fin : {W : Type 0} (mach : schedule.Machine W) (view : W → Files) (Plain : W → Type 0) {P R : Type 0} (log : P → Option (List LogEvent)) (state : P → Option (schedule.State W)) (lists : R → Option Lists) (kept : Completion → Completion) (first now new : P) (from to : R) (room : ℕ) (todo todo' : List Taken) (started started' : ℕ) (slots slots' : List Slot) (offers : List Offer) (capacity idle quiet : ℕ) (fin : Bool) (x : Next mach view Plain log state lists kept first now new from to room todo todo' started started' slots slots' offers capacity idle quiet (Ok fin)) → fin ≡ any_final (posted x.round.ms)
-next_fin mach view Plain log state lists kept first now new from to room todo todo' started started' slots slots' offers capacity idle quiet fin x =
+next_fin : {W : Type 0} (mach : schedule.Machine W) (view : W → Files) (Plain : W → Type 0) {P R : Type 0} (log : P → Option (List LogEvent)) (state : P → Option (schedule.State W)) (lists : R → Option Lists) (kept : Completion → Completion) (first now new : P) (from to : R) (room : ℕ) (todo todo' : List Taken) (started started' : ℕ) (slots slots' : List Slot) (offers : List Offer) (capacity idle idled : ℕ) (fin : Bool) (x : Next mach view Plain log state lists kept first now new from to room todo todo' started started' slots slots' offers capacity idle idled (Ok fin)) → fin ≡ any_final (posted x.round.ms)
+next_fin mach view Plain log state lists kept first now new from to room todo todo' started started' slots slots' offers capacity idle idled fin x =
     x.round.ends.3 ∙ any_kept kept x.keeps (posted x.round.ms)
 
-pub next_count : {W : Type 0} (mach : schedule.Machine W) (view : W → Files) (Plain : W → Type 0) {P R : Type 0} (log : P → Option (List LogEvent)) (state : P → Option (schedule.State W)) (lists : R → Option Lists) (kept : Completion → Completion) (first now new : P) (from to : R) (room : ℕ) (todo todo' : List Taken) (started started' : ℕ) (slots slots' : List Slot) (offers : List Offer) (capacity idle quiet : ℕ) (fin : Bool) (x : Next mach view Plain log state lists kept first now new from to room todo todo' started started' slots slots' offers capacity idle quiet (Ok fin)) → count_open slots' + cond fin 1 0 ≤ count_open slots
-next_count mach view Plain log state lists kept first now new from to room todo todo' started started' slots slots' offers capacity idle quiet fin x =
+pub next_count : {W : Type 0} (mach : schedule.Machine W) (view : W → Files) (Plain : W → Type 0) {P R : Type 0} (log : P → Option (List LogEvent)) (state : P → Option (schedule.State W)) (lists : R → Option Lists) (kept : Completion → Completion) (first now new : P) (from to : R) (room : ℕ) (todo todo' : List Taken) (started started' : ℕ) (slots slots' : List Slot) (offers : List Offer) (capacity idle idled : ℕ) (fin : Bool) (x : Next mach view Plain log state lists kept first now new from to room todo todo' started started' slots slots' offers capacity idle idled (Ok fin)) → count_open slots' + cond fin 1 0 ≤ count_open slots
+next_count mach view Plain log state lists kept first now new from to room todo todo' started started' slots slots' offers capacity idle idled fin x =
     let due : stranger_among started' slots (posted x.round.ms) ≡ None = sym (stranger_kept kept x.keeps started' slots (posted x.round.ms)) ∙ x.round.ends.1 in
-    subst (λ y. count_open y + cond fin 1 0 ≤ count_open slots) (sym (next_slots mach view Plain log state lists kept first now new from to room todo todo' started started' slots slots' offers capacity idle quiet fin x))
-    (subst (λ b. count_open (land_all slots (posted x.round.ms)) + cond b 1 0 ≤ count_open slots) (sym (next_fin mach view Plain log state lists kept first now new from to room todo todo' started started' slots slots' offers capacity idle quiet fin x))
+    subst (λ y. count_open y + cond fin 1 0 ≤ count_open slots) (sym (next_slots mach view Plain log state lists kept first now new from to room todo todo' started started' slots slots' offers capacity idle idled fin x))
+    (subst (λ b. count_open (land_all slots (posted x.round.ms)) + cond b 1 0 ≤ count_open slots) (sym (next_fin mach view Plain log state lists kept first now new from to room todo todo' started started' slots slots' offers capacity idle idled fin x))
     (all_landed started' slots (posted x.round.ms) due))
 
 resting_next : (fin : Bool) (q r : ℕ) (slots slots' : List Slot) (cs : List Completion) → r ≡ cond fin 0 (q + 1) → slots' ≡ land_all slots cs → fin ≡ any_final cs → 0 < count_open slots → count_open slots' ≡ 0 → r ≡ 0
@@ -298,17 +298,17 @@ resting_next false q r slots slots' cs e s f h z =
     let same : count_open slots' ≡ count_open slots = ap count_open (s ∙ none_landed slots cs (sym f)) in
     absurd (omega (arith, same, h, z))
 
-next_quiet : {W : Type 0} (mach : schedule.Machine W) (view : W → Files) (Plain : W → Type 0) {P R : Type 0} (log : P → Option (List LogEvent)) (state : P → Option (schedule.State W)) (lists : R → Option Lists) (kept : Completion → Completion) (first now new : P) (from to : R) (room : ℕ) (todo todo' : List Taken) (started started' : ℕ) (slots slots' : List Slot) (offers : List Offer) (capacity idle quiet : ℕ) (fin : Bool) (x : Next mach view Plain log state lists kept first now new from to room todo todo' started started' slots slots' offers capacity idle quiet (Ok fin)) → (q' : ℕ) → q' ≡ cond fin 0 (quiet + 1) → q' ≡ quiet_turns 0 (log_of (x.run.ms ++ x.round.ms))
-next_quiet mach view Plain log state lists kept first now new from to room todo todo' started started' slots slots' offers capacity idle quiet fin x =
+next_idle : {W : Type 0} (mach : schedule.Machine W) (view : W → Files) (Plain : W → Type 0) {P R : Type 0} (log : P → Option (List LogEvent)) (state : P → Option (schedule.State W)) (lists : R → Option Lists) (kept : Completion → Completion) (first now new : P) (from to : R) (room : ℕ) (todo todo' : List Taken) (started started' : ℕ) (slots slots' : List Slot) (offers : List Offer) (capacity idle idled : ℕ) (fin : Bool) (x : Next mach view Plain log state lists kept first now new from to room todo todo' started started' slots slots' offers capacity idle idled (Ok fin)) → (q' : ℕ) → q' ≡ cond fin 0 (idled + 1) → q' ≡ idle_turns 0 (log_of (x.run.ms ++ x.round.ms))
+next_idle mach view Plain log state lists kept first now new from to room todo todo' started started' slots slots' offers capacity idle idled fin x =
     λ q' e.
-    let c = next_entered mach view Plain log state lists kept first now new from to room todo todo' started started' slots slots' offers capacity idle quiet (Ok fin) x x.round.ends.0 in
-    e ∙ ap (λ b. cond b 0 (quiet + 1)) (next_fin mach view Plain log state lists kept first now new from to room todo todo' started started' slots slots' offers capacity idle quiet fin x ∙ ap (λ ms. any_final (posted ms)) c.moves)
-    ∙ sym (call_quiet x.run.ms c.p c.rest quiet c.one x.run.quiet_is)
-    ∙ ap (λ ms. quiet_turns 0 (log_of (x.run.ms ++ ms))) (sym c.moves)
+    let c = next_entered mach view Plain log state lists kept first now new from to room todo todo' started started' slots slots' offers capacity idle idled (Ok fin) x x.round.ends.0 in
+    e ∙ ap (λ b. cond b 0 (idled + 1)) (next_fin mach view Plain log state lists kept first now new from to room todo todo' started started' slots slots' offers capacity idle idled fin x ∙ ap (λ ms. any_final (posted ms)) c.moves)
+    ∙ sym (call_idle x.run.ms c.p c.rest idled c.one x.run.idled_is)
+    ∙ ap (λ ms. idle_turns 0 (log_of (x.run.ms ++ ms))) (sym c.moves)
 
-next_turns : {W : Type 0} (mach : schedule.Machine W) (view : W → Files) (Plain : W → Type 0) {P R : Type 0} (log : P → Option (List LogEvent)) (state : P → Option (schedule.State W)) (lists : R → Option Lists) (kept : Completion → Completion) (first now new : P) (from to : R) (room : ℕ) (todo todo' : List Taken) (started started' : ℕ) (slots slots' : List Slot) (offers : List Offer) (capacity idle quiet : ℕ) (fin : Bool) (x : Next mach view Plain log state lists kept first now new from to room todo todo' started started' slots slots' offers capacity idle quiet (Ok fin)) → turns (x.run.ms ++ x.round.ms) ≡ turns x.run.ms + 1
-next_turns mach view Plain log state lists kept first now new from to room todo todo' started started' slots slots' offers capacity idle quiet fin x =
-    let c = next_entered mach view Plain log state lists kept first now new from to room todo todo' started started' slots slots' offers capacity idle quiet (Ok fin) x x.round.ends.0 in
+next_turns : {W : Type 0} (mach : schedule.Machine W) (view : W → Files) (Plain : W → Type 0) {P R : Type 0} (log : P → Option (List LogEvent)) (state : P → Option (schedule.State W)) (lists : R → Option Lists) (kept : Completion → Completion) (first now new : P) (from to : R) (room : ℕ) (todo todo' : List Taken) (started started' : ℕ) (slots slots' : List Slot) (offers : List Offer) (capacity idle idled : ℕ) (fin : Bool) (x : Next mach view Plain log state lists kept first now new from to room todo todo' started started' slots slots' offers capacity idle idled (Ok fin)) → turns (x.run.ms ++ x.round.ms) ≡ turns x.run.ms + 1
+next_turns mach view Plain log state lists kept first now new from to room todo todo' started started' slots slots' offers capacity idle idled fin x =
+    let c = next_entered mach view Plain log state lists kept first now new from to room todo todo' started started' slots slots' offers capacity idle idled (Ok fin) x x.round.ends.0 in
     let one : turns x.round.ms ≡ suc (turns c.rest) = ap turns c.moves in
     x.laws.join.turning x.run.ms x.round.ms ∙ omega (arith, one, c.one)
 
@@ -317,20 +317,20 @@ on_true true T e h = h
 on_true false T e h = cc
 
 -- an idle partner whose files are told posts in each round, and each of its posts ends a job
-next_prompt : {W : Type 0} (mach : schedule.Machine W) (view : W → Files) (Plain : W → Type 0) {P R : Type 0} (log : P → Option (List LogEvent)) (state : P → Option (schedule.State W)) (lists : R → Option Lists) (kept : Completion → Completion) (first now new : P) (from to : R) (room : ℕ) (todo todo' : List Taken) (started started' : ℕ) (slots slots' : List Slot) (offers : List Offer) (capacity idle quiet : ℕ) (fin : Bool) (x : Next mach view Plain log state lists kept first now new from to room todo todo' started started' slots slots' offers capacity idle quiet (Ok fin)) (quiet' : ℕ) → quiet' ≡ cond fin 0 (quiet + 1) → (a : schedule.State W) → state first ≡ Some a → IsIdle Plain a
-    → (quiet' ≡ 0) × (count_open slots' + length (posted (x.run.ms ++ x.round.ms)) ≡ length offers) × (turns (x.run.ms ++ x.round.ms) ≤ length (posted (x.run.ms ++ x.round.ms)))
-next_prompt mach view Plain log state lists kept first now new from to room todo todo' started started' slots slots' offers capacity idle quiet fin x quiet' e a told is_idle =
+next_prompt : {W : Type 0} (mach : schedule.Machine W) (view : W → Files) (Plain : W → Type 0) {P R : Type 0} (log : P → Option (List LogEvent)) (state : P → Option (schedule.State W)) (lists : R → Option Lists) (kept : Completion → Completion) (first now new : P) (from to : R) (room : ℕ) (todo todo' : List Taken) (started started' : ℕ) (slots slots' : List Slot) (offers : List Offer) (capacity idle idled : ℕ) (fin : Bool) (x : Next mach view Plain log state lists kept first now new from to room todo todo' started started' slots slots' offers capacity idle idled (Ok fin)) (idled' : ℕ) → idled' ≡ cond fin 0 (idled + 1) → (a : schedule.State W) → state first ≡ Some a → IsIdle Plain a
+    → (idled' ≡ 0) × (count_open slots' + length (posted (x.run.ms ++ x.round.ms)) ≡ length offers) × (turns (x.run.ms ++ x.round.ms) ≤ length (posted (x.run.ms ++ x.round.ms)))
+next_prompt mach view Plain log state lists kept first now new from to room todo todo' started started' slots slots' offers capacity idle idled fin x idled' e a told is_idle =
     let q = x.run.prompt a told is_idle in
-    let c = next_entered mach view Plain log state lists kept first now new from to room todo todo' started started' slots slots' offers capacity idle quiet (Ok fin) x x.round.ends.0 in
+    let c = next_entered mach view Plain log state lists kept first now new from to room todo todo' started started' slots slots' offers capacity idle idled (Ok fin) x x.round.ends.0 in
     let b = served_some mach a x.run.ms (state now) (subst (λ o. schedule.IsServed mach o x.run.ms (state now)) told x.run.states) in
     let w : IsTurnOf mach b.0 x.round.at x.round.ms = subst (λ o. IsWholeTurn mach o (Some x.round.at) x.round.ms) b.1 (on_true x.round.entered (IsWholeTurn mach (state now) (Some x.round.at) x.round.ms) x.round.ends.0 x.round.whole) in
     let cs = (turn mach w.ts (room_of x.round.at) b.0).posts in
     let posts : posted x.round.ms ≡ cs = ap posted w.moves ∙ x.laws.turn_posts w.ts cs in
-    let at_room : room_of x.round.at ≡ x.run.l.completion_capacity - (length x.run.l.completions + 0) = ap room_of x.round.published ∙ ap (λ l. l.completion_capacity - (length l.completions + 0)) (same_lists mach view Plain log state lists kept first now new from to room todo todo' started started' slots slots' offers capacity idle quiet (Ok fin) x) in
+    let at_room : room_of x.round.at ≡ x.run.l.completion_capacity - (length x.run.l.completions + 0) = ap room_of x.round.published ∙ ap (λ l. l.completion_capacity - (length l.completions + 0)) (same_lists mach view Plain log state lists kept first now new from to room todo todo' started started' slots slots' offers capacity idle idled (Ok fin) x) in
     let none : length x.run.l.completions ≡ 0 = ap length x.run.calm.completions in
     let holds = x.run.holds in
     let room_is : 0 < room_of x.round.at = omega (arith, at_room, none, holds.1) in
-    let whole = next_entries mach view Plain log state lists kept first now new from to room todo todo' started started' slots slots' offers capacity idle quiet (Ok fin) x in
+    let whole = next_entries mach view Plain log state lists kept first now new from to room todo todo' started started' slots slots' offers capacity idle idled (Ok fin) x in
     let took_all : AllByRecursion IsJobEntry (took (x.run.ms ++ x.round.ms)) = six_front (took (x.run.ms ++ x.round.ms)) (x.round.after.published ++ todo') (subst (AllByRecursion IsJobEntry) (sym whole) x.run.six) in
     let took_both : AllByRecursion IsJobEntry (took x.run.ms ++ took x.round.ms) = subst (AllByRecursion IsJobEntry) (x.laws.join.takes x.run.ms x.round.ms) took_all in
     let six_run : AllByRecursion IsJobEntry (took x.run.ms) = six_front (took x.run.ms) (took x.round.ms) took_both in
@@ -338,16 +338,16 @@ next_prompt mach view Plain log state lists kept first now new from to room todo
     let six_ts : AllByRecursion IsJobEntry w.ts = subst (AllByRecursion IsJobEntry) takes (six_back (took x.run.ms) (took x.round.ms) took_both) in
     let pays = turn_pays mach view Plain x.laws a b.0 x.run.ms x.round.ms c.rest x.round.at (length offers) c.p x.run.l.capacity (count_open slots) is_idle b.2 six_run w six_ts c.moves c.full holds.0 room_is q.1 x.unfinished in
     let final : AllFinal (posted x.round.ms) = subst AllFinal (sym posts) (turn_final mach (room_of x.round.at) (take_all b.0 w.ts)) in
-    let yes : fin ≡ true = next_fin mach view Plain log state lists kept first now new from to room todo todo' started started' slots slots' offers capacity idle quiet fin x ∙ final_any (posted x.round.ms) final (subst (λ l. 0 < length l) (sym posts) pays) in
+    let yes : fin ≡ true = next_fin mach view Plain log state lists kept first now new from to room todo todo' started started' slots slots' offers capacity idle idled fin x ∙ final_any (posted x.round.ms) final (subst (λ l. 0 < length l) (sym posts) pays) in
     let due : stranger_among started' slots (posted x.round.ms) ≡ None = sym (stranger_kept kept x.keeps started' slots (posted x.round.ms)) ∙ x.round.ends.1 in
-    let landed : count_open slots' + length (posted x.round.ms) ≡ count_open slots = ap (λ y. count_open y + length (posted x.round.ms)) (next_slots mach view Plain log state lists kept first now new from to room todo todo' started started' slots slots' offers capacity idle quiet fin x) ∙ each_lands started' slots (posted x.round.ms) final due in
+    let landed : count_open slots' + length (posted x.round.ms) ≡ count_open slots = ap (λ y. count_open y + length (posted x.round.ms)) (next_slots mach view Plain log state lists kept first now new from to room todo todo' started started' slots slots' offers capacity idle idled fin x) ∙ each_lands started' slots (posted x.round.ms) final due in
     let all : length (posted (x.run.ms ++ x.round.ms)) ≡ length (posted x.run.ms) + length (posted x.round.ms) = ap length (x.laws.join.posts x.run.ms x.round.ms) ∙ length-append (posted x.run.ms) (posted x.round.ms) in
-    (e ∙ ap (λ b. cond b 0 (quiet + 1)) yes, omega (arith, landed, all, q.1), omega (arith, q.2, next_turns mach view Plain log state lists kept first now new from to room todo todo' started started' slots slots' offers capacity idle quiet fin x, all, ap length posts, pays))
+    (e ∙ ap (λ b. cond b 0 (idled + 1)) yes, omega (arith, landed, all, q.1), omega (arith, q.2, next_turns mach view Plain log state lists kept first now new from to room todo todo' started started' slots slots' offers capacity idle idled fin x, all, ap length posts, pays))
 
-pub running_next : {W : Type 0} (mach : schedule.Machine W) (view : W → Files) (Plain : W → Type 0) {P R : Type 0} (log : P → Option (List LogEvent)) (state : P → Option (schedule.State W)) (lists : R → Option Lists) (kept : Completion → Completion) (first now new : P) (from to : R) (room : ℕ) (todo todo' : List Taken) (started started' : ℕ) (slots slots' : List Slot) (offers : List Offer) (capacity idle quiet : ℕ) (fin : Bool) (room' quiet' : ℕ) → (x : Next mach view Plain log state lists kept first now new from to room todo todo' started started' slots slots' offers capacity idle quiet (Ok fin)) → (l : Lists) × (lists to ≡ Some l) × IsCalm l room' → quiet' ≡ cond fin 0 (quiet + 1)
-    → Running mach view Plain log state lists first new to room' todo' started' slots' offers capacity idle quiet'
-running_next mach view Plain log state lists kept first now new from to room todo todo' started started' slots slots' offers capacity idle quiet fin room' quiet' x calm e =
-    let entries = next_entries mach view Plain log state lists kept first now new from to room todo todo' started started' slots slots' offers capacity idle quiet (Ok fin) x in
+pub running_next : {W : Type 0} (mach : schedule.Machine W) (view : W → Files) (Plain : W → Type 0) {P R : Type 0} (log : P → Option (List LogEvent)) (state : P → Option (schedule.State W)) (lists : R → Option Lists) (kept : Completion → Completion) (first now new : P) (from to : R) (room : ℕ) (todo todo' : List Taken) (started started' : ℕ) (slots slots' : List Slot) (offers : List Offer) (capacity idle idled : ℕ) (fin : Bool) (room' idled' : ℕ) → (x : Next mach view Plain log state lists kept first now new from to room todo todo' started started' slots slots' offers capacity idle idled (Ok fin)) → (l : Lists) × (lists to ≡ Some l) × IsCalm l room' → idled' ≡ cond fin 0 (idled + 1)
+    → Running mach view Plain log state lists first new to room' todo' started' slots' offers capacity idle idled'
+running_next mach view Plain log state lists kept first now new from to room todo todo' started started' slots slots' offers capacity idle idled fin room' idled' x calm e =
+    let entries = next_entries mach view Plain log state lists kept first now new from to room todo todo' started started' slots slots' offers capacity idle idled (Ok fin) x in
     let ms = x.run.ms ++ x.round.ms in
     let counted = counts offers ms x.round.after.published todo' entries in
     let before = counts offers x.run.ms x.run.l.published todo x.run.entries in
@@ -358,46 +358,46 @@ running_next mach view Plain log state lists kept first now new from to room tod
       l = x.round.after;
       told = x.round.told_after;
       calm = subst (λ y. IsCalm y room') (told_same (lists to) calm.0 x.round.after calm.1 x.round.told_after) calm.2;
-      size = x.round.capacity ∙ ap (λ y. y.capacity) x.round.published ∙ ap (λ y. y.capacity) (same_lists mach view Plain log state lists kept first now new from to room todo todo' started started' slots slots' offers capacity idle quiet (Ok fin) x) ∙ x.run.size;
+      size = x.round.capacity ∙ ap (λ y. y.capacity) x.round.published ∙ ap (λ y. y.capacity) (same_lists mach view Plain log state lists kept first now new from to room todo todo' started started' slots slots' offers capacity idle idled (Ok fin) x) ∙ x.run.size;
       entries = entries;
-      busy = next_busy mach view Plain log state lists kept first now new from to room todo todo' started started' slots slots' offers capacity idle quiet (Ok fin) x;
-      within = next_within mach view Plain log state lists kept first now new from to room todo todo' started started' slots slots' offers capacity idle quiet (Ok fin) x;
-      few = subst (λ k. k + idle * count_open slots' ≤ idle * length offers + quiet') (sym (next_turns mach view Plain log state lists kept first now new from to room todo todo' started started' slots slots' offers capacity idle quiet fin x)) (few_next fin idle (length offers) (turns x.run.ms) (count_open slots) (count_open slots') quiet quiet' x.run.few (next_count mach view Plain log state lists kept first now new from to room todo todo' started started' slots slots' offers capacity idle quiet fin x) x.waits e);
-      resting = resting_next fin quiet quiet' slots slots' (posted x.round.ms) e (next_slots mach view Plain log state lists kept first now new from to room todo todo' started started' slots slots' offers capacity idle quiet fin x) (next_fin mach view Plain log state lists kept first now new from to room todo todo' started started' slots slots' offers capacity idle quiet fin x) x.unfinished;
+      busy = next_busy mach view Plain log state lists kept first now new from to room todo todo' started started' slots slots' offers capacity idle idled (Ok fin) x;
+      within = next_within mach view Plain log state lists kept first now new from to room todo todo' started started' slots slots' offers capacity idle idled (Ok fin) x;
+      few = subst (λ k. k + idle * count_open slots' ≤ idle * length offers + idled') (sym (next_turns mach view Plain log state lists kept first now new from to room todo todo' started started' slots slots' offers capacity idle idled fin x)) (few_next fin idle (length offers) (turns x.run.ms) (count_open slots) (count_open slots') idled idled' x.run.few (next_count mach view Plain log state lists kept first now new from to room todo todo' started started' slots slots' offers capacity idle idled fin x) x.waits e);
+      resting = resting_next fin idled idled' slots slots' (posted x.round.ms) e (next_slots mach view Plain log state lists kept first now new from to room todo todo' started started' slots slots' offers capacity idle idled fin x) (next_fin mach view Plain log state lists kept first now new from to room todo todo' started started' slots slots' offers capacity idle idled fin x) x.unfinished;
       told_slots =
-          next_slots mach view Plain log state lists kept first now new from to room todo todo' started started' slots slots' offers capacity idle quiet fin x ∙ ap (λ y. land_all y (posted x.round.ms)) x.run.told_slots
-          ∙ lands_all started' offers (posted x.run.ms) (posted x.round.ms) (next_posts mach view Plain log state lists kept first now new from to room todo todo' started started' slots slots' offers capacity idle quiet fin x)
+          next_slots mach view Plain log state lists kept first now new from to room todo todo' started started' slots slots' offers capacity idle idled fin x ∙ ap (λ y. land_all y (posted x.round.ms)) x.run.told_slots
+          ∙ lands_all started' offers (posted x.run.ms) (posted x.round.ms) (next_posts mach view Plain log state lists kept first now new from to room todo todo' started started' slots slots' offers capacity idle idled fin x)
           ∙ ap (slots_from 0 offers) (sym (x.laws.join.posts x.run.ms x.round.ms));
-      expected = next_strange mach view Plain log state lists kept first now new from to room todo todo' started started' slots slots' offers capacity idle quiet (Ok fin) x x.round.ends.0 ∙ x.round.ends.1;
-      quiet_is = next_quiet mach view Plain log state lists kept first now new from to room todo todo' started started' slots slots' offers capacity idle quiet fin x quiet' e;
+      expected = next_strange mach view Plain log state lists kept first now new from to room todo todo' started started' slots slots' offers capacity idle idled (Ok fin) x x.round.ends.0 ∙ x.round.ends.1;
+      idled_is = next_idle mach view Plain log state lists kept first now new from to room todo todo' started started' slots slots' offers capacity idle idled fin x idled' e;
       started_is = omega (arith, counted, before, x.run.started_is, x.count);
       holds =
-          let cap : x.round.after.capacity ≡ x.run.l.capacity = x.round.capacity ∙ ap (λ y. y.capacity) x.round.published ∙ ap (λ y. y.capacity) (same_lists mach view Plain log state lists kept first now new from to room todo todo' started started' slots slots' offers capacity idle quiet (Ok fin) x) in
-          let posts_fit : x.round.after.completion_capacity ≡ x.run.l.completion_capacity = x.round.completion_capacity ∙ ap (λ y. y.completion_capacity) x.round.published ∙ ap (λ y. y.completion_capacity) (same_lists mach view Plain log state lists kept first now new from to room todo todo' started started' slots slots' offers capacity idle quiet (Ok fin) x) in
+          let cap : x.round.after.capacity ≡ x.run.l.capacity = x.round.capacity ∙ ap (λ y. y.capacity) x.round.published ∙ ap (λ y. y.capacity) (same_lists mach view Plain log state lists kept first now new from to room todo todo' started started' slots slots' offers capacity idle idled (Ok fin) x) in
+          let posts_fit : x.round.after.completion_capacity ≡ x.run.l.completion_capacity = x.round.completion_capacity ∙ ap (λ y. y.completion_capacity) x.round.published ∙ ap (λ y. y.completion_capacity) (same_lists mach view Plain log state lists kept first now new from to room todo todo' started started' slots slots' offers capacity idle idled (Ok fin) x) in
           (subst (λ k. 0 < k) (sym cap) x.run.holds.0, subst (λ k. 0 < k) (sym posts_fit) x.run.holds.1);
       six = x.run.six;
-      prompt = next_prompt mach view Plain log state lists kept first now new from to room todo todo' started started' slots slots' offers capacity idle quiet fin x quiet' e;
+      prompt = next_prompt mach view Plain log state lists kept first now new from to room todo todo' started started' slots slots' offers capacity idle idled fin x idled' e;
     }
 
 -- a round that ends with a fault
 
-faulted_next : {W : Type 0} (mach : schedule.Machine W) (view : W → Files) (Plain : W → Type 0) {P R : Type 0} (log : P → Option (List LogEvent)) (state : P → Option (schedule.State W)) (lists : R → Option Lists) (kept : Completion → Completion) (first now new : P) (from to : R) (room : ℕ) (todo todo' : List Taken) (started started' : ℕ) (slots slots' : List Slot) (offers : List Offer) (capacity idle quiet : ℕ) (e : RunFault) → (x : Next mach view Plain log state lists kept first now new from to room todo todo' started started' slots slots' offers capacity idle quiet (Err e)) → IsGivenUp offers idle (log_of (x.run.ms ++ x.round.ms)) e
-faulted_next mach view Plain log state lists kept first now new from to room todo todo' started started' slots slots' offers capacity idle quiet (faults.Stranger u) x = next_strange mach view Plain log state lists kept first now new from to room todo todo' started started' slots slots' offers capacity idle quiet (Err (faults.Stranger u)) x x.round.ends.0 ∙ x.round.ends.1
-faulted_next mach view Plain log state lists kept first now new from to room todo todo' started started' slots slots' offers capacity idle quiet faults.PartnerFault x = tt
-faulted_next mach view Plain log state lists kept first now new from to room todo todo' started started' slots slots' offers capacity idle quiet faults.NoMemory x = tt
-faulted_next mach view Plain log state lists kept first now new from to room todo todo' started started' slots slots' offers capacity idle quiet faults.BadSize x = absurd x.round.ends
-faulted_next mach view Plain log state lists kept first now new from to room todo todo' started started' slots slots' offers capacity idle quiet (faults.BadJob n) x = absurd x.round.ends
-faulted_next mach view Plain log state lists kept first now new from to room todo todo' started started' slots slots' offers capacity idle quiet faults.Stalled x = absurd x.round.ends
+faulted_next : {W : Type 0} (mach : schedule.Machine W) (view : W → Files) (Plain : W → Type 0) {P R : Type 0} (log : P → Option (List LogEvent)) (state : P → Option (schedule.State W)) (lists : R → Option Lists) (kept : Completion → Completion) (first now new : P) (from to : R) (room : ℕ) (todo todo' : List Taken) (started started' : ℕ) (slots slots' : List Slot) (offers : List Offer) (capacity idle idled : ℕ) (e : RunFault) → (x : Next mach view Plain log state lists kept first now new from to room todo todo' started started' slots slots' offers capacity idle idled (Err e)) → IsGivenUp offers idle (log_of (x.run.ms ++ x.round.ms)) e
+faulted_next mach view Plain log state lists kept first now new from to room todo todo' started started' slots slots' offers capacity idle idled (faults.Stranger u) x = next_strange mach view Plain log state lists kept first now new from to room todo todo' started started' slots slots' offers capacity idle idled (Err (faults.Stranger u)) x x.round.ends.0 ∙ x.round.ends.1
+faulted_next mach view Plain log state lists kept first now new from to room todo todo' started started' slots slots' offers capacity idle idled faults.PartnerFault x = tt
+faulted_next mach view Plain log state lists kept first now new from to room todo todo' started started' slots slots' offers capacity idle idled faults.NoMemory x = tt
+faulted_next mach view Plain log state lists kept first now new from to room todo todo' started started' slots slots' offers capacity idle idled faults.BadSize x = absurd x.round.ends
+faulted_next mach view Plain log state lists kept first now new from to room todo todo' started started' slots slots' offers capacity idle idled (faults.BadJob n) x = absurd x.round.ends
+faulted_next mach view Plain log state lists kept first now new from to room todo todo' started started' slots slots' offers capacity idle idled faults.Stalled x = absurd x.round.ends
 
-pub next_faulted : {W : Type 0} (mach : schedule.Machine W) (view : W → Files) (Plain : W → Type 0) {P R : Type 0} (log : P → Option (List LogEvent)) (state : P → Option (schedule.State W)) (lists : R → Option Lists) (kept : Completion → Completion) (first now new : P) (from to : R) (room : ℕ) (todo todo' : List Taken) (started started' : ℕ) (slots slots' : List Slot) (offers : List Offer) (capacity idle quiet : ℕ) (e : RunFault) → (x : Next mach view Plain log state lists kept first now new from to room todo todo' started started' slots slots' offers capacity idle quiet (Err e)) → (r : Driven mach log state first new offers capacity idle) × IsGivenUp offers idle (log_of r.moves) e
+pub next_faulted : {W : Type 0} (mach : schedule.Machine W) (view : W → Files) (Plain : W → Type 0) {P R : Type 0} (log : P → Option (List LogEvent)) (state : P → Option (schedule.State W)) (lists : R → Option Lists) (kept : Completion → Completion) (first now new : P) (from to : R) (room : ℕ) (todo todo' : List Taken) (started started' : ℕ) (slots slots' : List Slot) (offers : List Offer) (capacity idle idled : ℕ) (e : RunFault) → (x : Next mach view Plain log state lists kept first now new from to room todo todo' started started' slots slots' offers capacity idle idled (Err e)) → (r : Driven mach log state first new offers capacity idle) × IsGivenUp offers idle (log_of r.moves) e
 unfolding next_ran
-next_faulted mach view Plain log state lists kept first now new from to room todo todo' started started' slots slots' offers capacity idle quiet e x = (next_ran mach view Plain log state lists kept first now new from to room todo todo' started started' slots slots' offers capacity idle quiet (Err e) x, faulted_next mach view Plain log state lists kept first now new from to room todo todo' started started' slots slots' offers capacity idle quiet e x)
+next_faulted mach view Plain log state lists kept first now new from to room todo todo' started started' slots slots' offers capacity idle idled e x = (next_ran mach view Plain log state lists kept first now new from to room todo todo' started started' slots slots' offers capacity idle idled (Err e) x, faulted_next mach view Plain log state lists kept first now new from to room todo todo' started started' slots slots' offers capacity idle idled e x)
 
 -- where a run ends
 
-abbrev pub running_ran : {W : Type 0} (mach : schedule.Machine W) (view : W → Files) (Plain : W → Type 0) {P R : Type 0} (log : P → Option (List LogEvent)) (state : P → Option (schedule.State W)) (lists : R → Option Lists) (first now : P) (ring : R) (room : ℕ) (todo : List Taken) (started : ℕ) (slots : List Slot) (offers : List Offer) (capacity idle quiet : ℕ)
-    → (x : Running mach view Plain log state lists first now ring room todo started slots offers capacity idle quiet) → turns x.ms ≤ idle * length offers → Driven mach log state first now offers capacity idle
-running_ran mach view Plain log state lists first now ring room todo started slots offers capacity idle quiet x few = record {
+abbrev pub running_ran : {W : Type 0} (mach : schedule.Machine W) (view : W → Files) (Plain : W → Type 0) {P R : Type 0} (log : P → Option (List LogEvent)) (state : P → Option (schedule.State W)) (lists : R → Option Lists) (first now : P) (ring : R) (room : ℕ) (todo : List Taken) (started : ℕ) (slots : List Slot) (offers : List Offer) (capacity idle idled : ℕ)
+    → (x : Running mach view Plain log state lists first now ring room todo started slots offers capacity idle idled) → turns x.ms ≤ idle * length offers → Driven mach log state first now offers capacity idle
+running_ran mach view Plain log state lists first now ring room todo started slots offers capacity idle idled x few = record {
   moves = x.ms;
   ahead = x.l.published ++ todo;
   logs = x.logs;
@@ -408,14 +408,14 @@ running_ran mach view Plain log state lists first now ring room todo started slo
   few = few;
 }
 
-pub stalled_end : {W : Type 0} (mach : schedule.Machine W) (view : W → Files) (Plain : W → Type 0) {P R : Type 0} (log : P → Option (List LogEvent)) (state : P → Option (schedule.State W)) (lists : R → Option Lists) (first now : P) (ring : R) (room : ℕ) (todo : List Taken) (started : ℕ) (slots : List Slot) (offers : List Offer) (capacity idle quiet : ℕ)
-    → (x : Running mach view Plain log state lists first now ring room todo started slots offers capacity idle quiet) → quiet ≡ idle → 0 < count_open slots → (turns x.ms ≤ idle * length offers) × IsOpenJob offers idle (log_of x.ms)
-stalled_end mach view Plain log state lists first now ring room todo started slots offers capacity idle quiet x e h =
+pub stalled_end : {W : Type 0} (mach : schedule.Machine W) (view : W → Files) (Plain : W → Type 0) {P R : Type 0} (log : P → Option (List LogEvent)) (state : P → Option (schedule.State W)) (lists : R → Option Lists) (first now : P) (ring : R) (room : ℕ) (todo : List Taken) (started : ℕ) (slots : List Slot) (offers : List Offer) (capacity idle idled : ℕ)
+    → (x : Running mach view Plain log state lists first now ring room todo started slots offers capacity idle idled) → idled ≡ idle → 0 < count_open slots → (turns x.ms ≤ idle * length offers) × IsOpenJob offers idle (log_of x.ms)
+stalled_end mach view Plain log state lists first now ring room todo started slots offers capacity idle idled x e h =
     let left : 0 < count_open (slots_from 0 offers (posted x.ms)) = subst (λ y. 0 < count_open y) x.told_slots h in
     let j = open_job 0 offers (posted x.ms) left in (
-      few_stalled idle (length offers) (turns x.ms) (count_open slots) quiet x.few h e,
+      few_stalled idle (length offers) (turns x.ms) (count_open slots) idled x.few h e,
       record {
-        quiet = omega (arith, e, x.quiet_is);
+        idled = omega (arith, e, x.idled_is);
         job = j.0;
         inside = j.1;
         unanswered = same_final j.0 x.ms ∙ ap (λ k. final_of k (posted x.ms)) (omega arith) ∙ j.2;
@@ -423,14 +423,14 @@ stalled_end mach view Plain log state lists first now ring room todo started slo
     )
 
 -- while a job is open, the turns so far are few
-pub few_open : {W : Type 0} (mach : schedule.Machine W) (view : W → Files) (Plain : W → Type 0) {P R : Type 0} (log : P → Option (List LogEvent)) (state : P → Option (schedule.State W)) (lists : R → Option Lists) (first now : P) (ring : R) (room : ℕ) (todo : List Taken) (started : ℕ) (slots : List Slot) (offers : List Offer) (capacity idle quiet : ℕ)
-    → (x : Running mach view Plain log state lists first now ring room todo started slots offers capacity idle quiet) → 0 < count_open slots → quiet < idle → turns x.ms ≤ idle * length offers
-few_open mach view Plain log state lists first now ring room todo started slots offers capacity idle quiet x left waits =
-    let h = few_last idle (length offers) (turns x.ms) (count_open slots) quiet 0 x.few left (omega (arith, waits)) (omega arith) in omega (arith, h)
+pub few_open : {W : Type 0} (mach : schedule.Machine W) (view : W → Files) (Plain : W → Type 0) {P R : Type 0} (log : P → Option (List LogEvent)) (state : P → Option (schedule.State W)) (lists : R → Option Lists) (first now : P) (ring : R) (room : ℕ) (todo : List Taken) (started : ℕ) (slots : List Slot) (offers : List Offer) (capacity idle idled : ℕ)
+    → (x : Running mach view Plain log state lists first now ring room todo started slots offers capacity idle idled) → 0 < count_open slots → idled < idle → turns x.ms ≤ idle * length offers
+few_open mach view Plain log state lists first now ring room todo started slots offers capacity idle idled x left waits =
+    let h = few_last idle (length offers) (turns x.ms) (count_open slots) idled 0 x.few left (omega (arith, waits)) (omega arith) in omega (arith, h)
 
-pub whole_end : {W : Type 0} (mach : schedule.Machine W) (view : W → Files) (Plain : W → Type 0) {P R : Type 0} (log : P → Option (List LogEvent)) (state : P → Option (schedule.State W)) (lists : R → Option Lists) (first now : P) (ring : R) (room : ℕ) (todo : List Taken) (started : ℕ) (slots : List Slot) (offers : List Offer) (capacity idle quiet : ℕ)
-    → (x : Running mach view Plain log state lists first now ring room todo started slots offers capacity idle quiet) → count_open slots ≡ 0 → turns x.ms ≤ idle * length offers
-whole_end mach view Plain log state lists first now ring room todo started slots offers capacity idle quiet x z = few_end idle (length offers) (turns x.ms) (count_open slots) quiet x.few (x.resting z)
+pub whole_end : {W : Type 0} (mach : schedule.Machine W) (view : W → Files) (Plain : W → Type 0) {P R : Type 0} (log : P → Option (List LogEvent)) (state : P → Option (schedule.State W)) (lists : R → Option Lists) (first now : P) (ring : R) (room : ℕ) (todo : List Taken) (started : ℕ) (slots : List Slot) (offers : List Offer) (capacity idle idled : ℕ)
+    → (x : Running mach view Plain log state lists first now ring room todo started slots offers capacity idle idled) → count_open slots ≡ 0 → turns x.ms ≤ idle * length offers
+whole_end mach view Plain log state lists first now ring room todo started slots offers capacity idle idled x z = few_end idle (length offers) (turns x.ms) (count_open slots) idled x.few (x.resting z)
 
 -- the beginning
 pub running_first : {W : Type 0} (mach : schedule.Machine W) (view : W → Files) (Plain : W → Type 0) {P R : Type 0} (log : P → Option (List LogEvent)) (state : P → Option (schedule.State W)) (lists : R → Option Lists) (first : P) (ring : R) (room : ℕ) (todo : List Taken) (started : ℕ) (slots : List Slot) (offers : List Offer) (capacity idle : ℕ)
@@ -451,7 +451,7 @@ running_first mach view Plain log state lists first ring room todo started slots
   resting = λ z. refl;
   told_slots = told_slots;
   expected = refl;
-  quiet_is = refl;
+  idled_is = refl;
   started_is = omega (arith, begun, ap length none);
   holds = holds;
   six = six;
@@ -460,10 +460,10 @@ running_first mach view Plain log state lists first ring room todo started slots
 
 -- for the loop
 
-abbrev pub next_of : {W : Type 0} (mach : schedule.Machine W) (view : W → Files) (Plain : W → Type 0) {P R : Type 0} (log : P → Option (List LogEvent)) (state : P → Option (schedule.State W)) (lists : R → Option Lists) (kept : Completion → Completion) (first now new : P) (from to : R) (room : ℕ) (todo todo' : List Offer) (started started' : ℕ) (slots slots' : List Slot) (offers : List Offer) (capacity idle quiet : ℕ) (answer : Result Bool RunFault)
-    → ModelLaws mach view Plain → Running mach view Plain log state lists first now from room (all_taken todo) started slots offers capacity idle quiet → Round mach log state lists kept now new from to (all_taken todo) (all_taken todo') started' slots slots' answer → ((c : Completion) → IsKept c (kept c))
-    → started' + length todo' ≡ started + length todo → 0 < count_open slots → quiet < idle → Next mach view Plain log state lists kept first now new from to room (all_taken todo) (all_taken todo') started started' slots slots' offers capacity idle quiet answer
-next_of mach view Plain log state lists kept first now new from to room todo todo' started started' slots slots' offers capacity idle quiet answer laws run round keeps count left waits =
+abbrev pub next_of : {W : Type 0} (mach : schedule.Machine W) (view : W → Files) (Plain : W → Type 0) {P R : Type 0} (log : P → Option (List LogEvent)) (state : P → Option (schedule.State W)) (lists : R → Option Lists) (kept : Completion → Completion) (first now new : P) (from to : R) (room : ℕ) (todo todo' : List Offer) (started started' : ℕ) (slots slots' : List Slot) (offers : List Offer) (capacity idle idled : ℕ) (answer : Result Bool RunFault)
+    → ModelLaws mach view Plain → Running mach view Plain log state lists first now from room (all_taken todo) started slots offers capacity idle idled → Round mach log state lists kept now new from to (all_taken todo) (all_taken todo') started' slots slots' answer → ((c : Completion) → IsKept c (kept c))
+    → started' + length todo' ≡ started + length todo → 0 < count_open slots → idled < idle → Next mach view Plain log state lists kept first now new from to room (all_taken todo) (all_taken todo') started started' slots slots' offers capacity idle idled answer
+next_of mach view Plain log state lists kept first now new from to room todo todo' started started' slots slots' offers capacity idle idled answer laws run round keeps count left waits =
     let n = length-map todo (λ o. small o.entry o.loan) in
     let n' = length-map todo' (λ o. small o.entry o.loan) in
     record { laws = laws; run = run; round = round; keeps = keeps; count = omega (arith, count, n, n'); unfinished = left; waits = omega (arith, waits) }
@@ -480,9 +480,9 @@ pub if_some : {A : Type 0} (o : Option A) (P : A → Type 0) → ((a : A) → o 
 if_some None P f = tt
 if_some (Some a) P f = f a refl
 
-pub slots_stay : {W : Type 0} (mach : schedule.Machine W) (view : W → Files) (Plain : W → Type 0) {P R : Type 0} (log : P → Option (List LogEvent)) (state : P → Option (schedule.State W)) (lists : R → Option Lists) (first now : P) (ring : R) (room : ℕ) (todo : List Taken) (started : ℕ) (slots : List Slot) (offers : List Offer) (capacity idle quiet : ℕ)
-    → Running mach view Plain log state lists first now ring room todo started slots offers capacity idle quiet → length slots ≡ length offers
-slots_stay mach view Plain log state lists first now ring room todo started slots offers capacity idle quiet x = ap length x.told_slots ∙ slots-length 0 offers (posted x.ms)
+pub slots_stay : {W : Type 0} (mach : schedule.Machine W) (view : W → Files) (Plain : W → Type 0) {P R : Type 0} (log : P → Option (List LogEvent)) (state : P → Option (schedule.State W)) (lists : R → Option Lists) (first now : P) (ring : R) (room : ℕ) (todo : List Taken) (started : ℕ) (slots : List Slot) (offers : List Offer) (capacity idle idled : ℕ)
+    → Running mach view Plain log state lists first now ring room todo started slots offers capacity idle idled → length slots ≡ length offers
+slots_stay mach view Plain log state lists first now ring room todo started slots offers capacity idle idled x = ap length x.told_slots ∙ slots-length 0 offers (posted x.ms)
 
 pub smaller : (fin : Bool) (o p q r idle : ℕ) → p + cond fin 1 0 ≤ o → r ≡ cond fin 0 (q + 1) → q + 1 ≤ idle → p * (idle + 1) + (idle - r) < o * (idle + 1) + (idle - q)
 smaller true o p q r idle h e w =
@@ -493,6 +493,6 @@ smaller false o p q r idle h e w =
     let m : p * (idle + 1) ≤ o * (idle + 1) = mul-le-mul_right (idle + 1) (omega arith) in
     omega (arith, m, e, w)
 
-pub quiet_below : (fin : Bool) (q r idle : ℕ) → r ≡ cond fin 0 (q + 1) → q + 1 ≤ idle → (r ≡ idle → ⊥) → r < idle
-quiet_below true q r idle e w differs = omega (arith, e, w)
-quiet_below false q r idle e w differs = omega (arith, e, w, differs)
+pub idled_below : (fin : Bool) (q r idle : ℕ) → r ≡ cond fin 0 (q + 1) → q + 1 ≤ idle → (r ≡ idle → ⊥) → r < idle
+idled_below true q r idle e w differs = omega (arith, e, w)
+idled_below false q r idle e w differs = omega (arith, e, w, differs)

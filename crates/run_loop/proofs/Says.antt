@@ -61,7 +61,7 @@ not_driven mach view Plain laws log state p jobs capacity idle = record { moves 
 
 faulted_of : (jobs : List Job) (idle : ℕ) (log : List LogEvent) (e : RunFault) → IsGivenUp (offers_from 0 jobs) idle log e → IsFaulted jobs idle log e
 faulted_of jobs idle log (faults.Stranger u) h = h
-faulted_of jobs idle log faults.Stalled h = record { quiet = h.quiet; job = h.job; inside = subst (λ n. h.job < n) (offers_count 0 jobs) h.inside; unanswered = h.unanswered }
+faulted_of jobs idle log faults.Stalled h = record { idled = h.idled; job = h.job; inside = subst (λ n. h.job < n) (offers_count 0 jobs) h.inside; unanswered = h.unanswered }
 faulted_of jobs idle log faults.PartnerFault h = tt
 faulted_of jobs idle log faults.NoMemory h = tt
 faulted_of jobs idle log faults.BadSize h = h

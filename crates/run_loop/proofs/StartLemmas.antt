@@ -21,7 +21,7 @@ use Rattle.run_loop.specs.declared.slot.Slot.{Slot}
 use Rattle.run_loop.specs.declared.slot.Slot.TheVariants.{Open, Done}
 use Rattle.uring_base.specs.Completions.{is_final}
 use Rattle.run_loop.specs.Told.{Ending, reply_for, lends, outcome_from}
-use Rattle.run_loop.specs.Entries.{words_of, with_drain, with_link, entry_of, loan_of, offer_of, unlinked_if, offers_from}
+use Rattle.run_loop.specs.Entries.{job_words, with_drain, with_link, job_entry, job_loan, offer_of, unlinked_if, offers_from}
 use Rattle.run_loop.specs.Slots.{slots_from, is_strange_at, is_stranger, land_in, land_one, land_all, stranger_among}
 use Rattle.run_loop.specs.Flights.{WasLent, AreReplied, jobs_of, flight_of, flight_in, all_polled, times_in, AreOperated, NoneResolved, IsAhead, AreAhead, IsSettled}
 use Rattle.run_loop.proofs.Posts.{passes}
@@ -46,7 +46,7 @@ marked e n false Soft (inr h) = flagged e n _ _ (rw h refl)
 marked e n false Hard (inl h) = flagged e n _ _ (rw h refl)
 marked e n false Hard (inr h) = flagged e n _ _ (rw h refl)
 
-few_flags : (n : ℕ) (kind : JobKind) → ((words_of n kind).flags ≡ 0) ⊎ ((words_of n kind).flags ≡ 1)
+few_flags : (n : ℕ) (kind : JobKind) → ((job_words n kind).flags ≡ 0) ⊎ ((job_words n kind).flags ≡ 1)
 few_flags n Nop = inl refl
 few_flags n (Read file offset buf) = inr refl
 few_flags n (Write file offset buf) = inr refl
@@ -54,8 +54,8 @@ few_flags n (Fsync file) = inr refl
 few_flags n (Ftruncate file len) = inr refl
 few_flags n (Cancel job) = inl refl
 
-pub marks_same : (n : ℕ) (job : Job) → with_marks n job.kind (mark_bits job.drain job.link) ≡ entry_of n job
-marks_same n job = marked (words_of n job.kind) n job.drain job.link (few_flags n job.kind)
+pub marks_same : (n : ℕ) (job : Job) → with_marks n job.kind (mark_bits job.drain job.link) ≡ job_entry n job
+marks_same n job = marked (job_words n job.kind) n job.drain job.link (few_flags n job.kind)
 
 -- one more operation
 

@@ -12,7 +12,7 @@ use Rattle.uring_model.specs.Honest.{TakesWithinTurns}
 use Rattle.uring_model.specs.Strange.{nothing_seen, first_strange}
 use Rattle.run_loop.specs.declared.entries.Offer.{Offer}
 use Rattle.run_loop.specs.Entries.{all_taken, lends_in}
-use Rattle.run_loop.specs.Told.{first_final, quiet_turns}
+use Rattle.run_loop.specs.Told.{first_final, idle_turns}
 
 pub record Driven {W : Type 0} (mach : schedule.Machine W) {P : Type 0} (log : P → Option (List LogEvent)) (state : P → Option (schedule.State W)) (old new : P) (offers : List Offer) (capacity idle : ℕ) : Type 0 where
   pub moves : List Move
@@ -26,7 +26,7 @@ pub record Driven {W : Type 0} (mach : schedule.Machine W) {P : Type 0} (log : P
 
 -- Some offer has no final post, and none stands behind the last `idle` turns.
 pub record IsOpenJob (offers : List Offer) (idle : ℕ) (log : List LogEvent) : Type 0 where
-  pub quiet : idle ≤ quiet_turns 0 log
+  pub idled : idle ≤ idle_turns 0 log
   pub job : ℕ
   pub inside : job < length offers
   pub unanswered : first_final job log ≡ None

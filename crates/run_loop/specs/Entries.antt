@@ -1,5 +1,7 @@
 -- The entry and the loan that each job becomes.
 use Rattle.std.specs.Prelude.{◌≡◌, ℕ, zero, suc, ◌+◌, ◌<◌, ◌^◌, Bool, true, false, if◌then◌else◌, List, [], ◌∷◌, length, map, bit_or, Option, Some, None}
+use Rattle.uring_base.specs.FlagBits.{bits_in}
+use Rattle.uring_base.specs.declared.flags.TheConstants.Flags.{IO_DRAIN, IO_LINK, IO_HARDLINK}
 use Rattle.uring_base.specs.declared.squeue.Entry.{Entry}
 use Rattle.uring_base.specs.declared.buffer.Loan.{Loan}
 use Rattle.uring_base.specs.declared.events.Taken.{Taken}
@@ -18,36 +20,36 @@ use Rattle.run_loop.specs.declared.slot.Reply.TheVariants.{Plain}
 use Rattle.run_loop.specs.Told.{reply_for, lends}
 
 -- the words of job j; a file is a registered one, and a read's or write's loan has the job's number
-abbrev pub words_of : ℕ → JobKind → Entry
-words_of j Nop = nop_words new_nop
-words_of j (Read file offset buf) = read_words (record (new_read (Fixed file) j (length buf)) { offset = offset })
-words_of j (Write file offset buf) = write_words (record (new_write (Fixed file) j (length buf)) { offset = offset })
-words_of j (Fsync file) = fsync_words (new_fsync (Fixed file))
-words_of j (Ftruncate file len) = ftruncate_words (new_ftruncate (Fixed file) len)
-words_of j (Cancel job) = async_cancel_words (new_async_cancel job)
+abbrev pub job_words : ℕ → JobKind → Entry
+job_words j Nop = nop_words new_nop
+job_words j (Read file offset buf) = read_words (record (new_read (Fixed file) j (length buf)) { offset = offset })
+job_words j (Write file offset buf) = write_words (record (new_write (Fixed file) j (length buf)) { offset = offset })
+job_words j (Fsync file) = fsync_words (new_fsync (Fixed file))
+job_words j (Ftruncate file len) = ftruncate_words (new_ftruncate (Fixed file) len)
+job_words j (Cancel job) = async_cancel_words (new_async_cancel job)
 
 -- the flag IO_DRAIN for a drained job, and IO_LINK or IO_HARDLINK for a linked one
 abbrev pub with_drain : Bool → Entry → Entry
-with_drain drain e = if drain then record e { flags = bit_or e.flags 2 } else e
+with_drain drain e = if drain then record e { flags = bit_or e.flags (bits_in IO_DRAIN) } else e
 
 abbrev pub with_link : Link → Entry → Entry
 with_link Free e = e
-with_link Soft e = record e { flags = bit_or e.flags 4 }
-with_link Hard e = record e { flags = bit_or e.flags 8 }
+with_link Soft e = record e { flags = bit_or e.flags (bits_in IO_LINK) }
+with_link Hard e = record e { flags = bit_or e.flags (bits_in IO_HARDLINK) }
 
-abbrev pub entry_of : ℕ → Job → Entry
-entry_of j job = record (with_link job.link (with_drain job.drain (words_of j job.kind))) { user_data = j }
+abbrev pub job_entry : ℕ → Job → Entry
+job_entry j job = record (with_link job.link (with_drain job.drain (job_words j job.kind))) { user_data = j }
 
-abbrev pub loan_of : ℕ → JobKind → Option Loan
-loan_of j Nop = None
-loan_of j (Read file offset buf) = Some (record { number = j; from = 0; buf = buf })
-loan_of j (Write file offset buf) = Some (record { number = j; from = 0; buf = buf })
-loan_of j (Fsync file) = None
-loan_of j (Ftruncate file len) = None
-loan_of j (Cancel job) = None
+abbrev pub job_loan : ℕ → JobKind → Option Loan
+job_loan j Nop = None
+job_loan j (Read file offset buf) = Some (record { number = j; from = 0; buf = buf })
+job_loan j (Write file offset buf) = Some (record { number = j; from = 0; buf = buf })
+job_loan j (Fsync file) = None
+job_loan j (Ftruncate file len) = None
+job_loan j (Cancel job) = None
 
 abbrev pub offer_of : ℕ → Job → Offer
-offer_of j job = record { entry = entry_of j job; loan = loan_of j job.kind; reply = reply_for job.kind }
+offer_of j job = record { entry = job_entry j job; loan = job_loan j job.kind; reply = reply_for job.kind }
 
 abbrev pub unlinked_if : Bool → Job → Job
 unlinked_if is_last job = record job { link = if is_last then Free else job.link }

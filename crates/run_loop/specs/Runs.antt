@@ -20,7 +20,7 @@ use Rattle.uring_model.specs.Honest.{TakesWithinTurns}
 use Rattle.uring_model.specs.Strange.{nothing_seen, first_strange}
 use Rattle.run_loop.specs.Entries.{entries_from, lends_at, first_bad}
 use Rattle.run_loop.specs.Memory.{Explains}
-use Rattle.run_loop.specs.Told.{first_final, quiet_turns, reply_for, outcome_from}
+use Rattle.run_loop.specs.Told.{first_final, idle_turns, reply_for, outcome_from}
 
 -- What the partner did in a run, whatever its answer: `moves` are what its log and its state gained, where it tells them.
 -- It took the jobs' entries in their order; each turn began with the ring full or all jobs pushed, and took no more
@@ -47,7 +47,7 @@ pub record IsAnswered (jobs : List Job) (log : List LogEvent) (answers : List Ou
 
 -- Some job has no final post, and none stands behind the last `idle` turns.
 pub record IsStalled (jobs : List Job) (idle : ℕ) (log : List LogEvent) : Type 0 where
-  pub quiet : idle ≤ quiet_turns 0 log
+  pub idled : idle ≤ idle_turns 0 log
   pub job : ℕ
   pub inside : job < length jobs
   pub unanswered : first_final job log ≡ None

@@ -23,11 +23,11 @@ first_final j (Take job entry ∷ log) = first_final j log
 first_final j (Post job result fin loan ∷ log) = if fin && nat_eq job j then Some (record { result = result; loan = loan }) else first_final j log
 
 -- how many turns stand behind the last final post, after `turns` earlier ones
-abbrev pub quiet_turns : ℕ → List LogEvent → ℕ
-quiet_turns turns [] = turns
-quiet_turns turns (Turn p ∷ log) = quiet_turns (suc turns) log
-quiet_turns turns (Take job entry ∷ log) = quiet_turns turns log
-quiet_turns turns (Post job result fin loan ∷ log) = quiet_turns (if fin then 0 else turns) log
+abbrev pub idle_turns : ℕ → List LogEvent → ℕ
+idle_turns turns [] = turns
+idle_turns turns (Turn p ∷ log) = idle_turns (suc turns) log
+idle_turns turns (Take job entry ∷ log) = idle_turns turns log
+idle_turns turns (Post job result fin loan ∷ log) = idle_turns (if fin then 0 else turns) log
 
 -- what a job's outcome tells, by its kind
 

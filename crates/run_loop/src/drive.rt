@@ -16,22 +16,22 @@ ghost use Rattle.run_loop.specs.Driven.{Driven, IsGivenUp};
 ghost use Rattle.run_loop.specs.Slots.{count_open, slots_from};
 ghost use Rattle.run_loop.specs.Flights.{IsSettled};
 
+use crate::job_table::JobTable;
 use crate::laws::model_laws;
 use crate::offers::Offers;
 use crate::round::round;
-use crate::table::Table;
+use partner_traits::Partner;
 use rent_engine::Engine;
+use ring_traits::{PartnerSide, UserEnds};
 use std::alloc::Global;
 use uring_model::RunFault;
-use partner_traits::Partner;
-use ring_traits::{PartnerSide, UserEnds};
 
 /// How many turns in a row had no final post.
-fn quiet_after(fin: bool, quiet: u32) -> u32
-    requires { quiet + 1 < 2 ^ 32 }
-    ensures { result ≡ cond fin 0 (quiet + 1) }
+fn idle_after(fin: bool, idled: u32) -> u32
+    requires { idled + 1 < 2 ^ 32 }
+    ensures { result ≡ cond fin 0 (idled + 1) }
 {
-    if fin { 0 } else { quiet + 1 }
+    if fin { 0 } else { idled + 1 }
 }
 
 /// Goes on in rounds until each job has its outcome, or `idle` turns in a row had no final
@@ -42,7 +42,7 @@ pub fn drive<R: UserEnds + PartnerSide, P: Partner>(
     engine: &mut Engine<R>,
     partner: &mut P,
     todo: &mut Offers,
-    table: &mut Table,
+    table: &mut JobTable,
 ) -> Result<(), RunFault>
     requires idle { 0 < idle }
     requires six { AllByRecursion IsJobEntry (all_taken todo.old) }
@@ -62,11 +62,11 @@ pub fn drive<R: UserEnds + PartnerSide, P: Partner>(
     ensures unstalled { IfSome (P.state partner.old) (λ a. IsIdle P.Plain a → IfErr result (λ e. is_stall e ≡ false)) }
 {
     model_laws::<P>();
-    let mut quiet = 0;
+    let mut idled = 0;
     'rounds: while !table.is_whole() {
         let fin = round(alloc, engine, partner, todo, table)?;
-        quiet = quiet_after(fin, quiet);
-        if quiet == idle {
+        idled = idle_after(fin, idled);
+        if idled == idle {
             return Err(RunFault::Stalled);
         }
     }

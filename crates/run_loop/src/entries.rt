@@ -5,6 +5,7 @@ ghost use Rattle.uring_model.specs.Jobs.{model_job, is_valid_job, is_valid_at};
 ghost use Rattle.run_loop.specs.Entries.{AllValid, IsInRange, AllInRange, first_bad, unlinked_if};
 
 use crate::slot::Reply;
+use uring_base::limits::{MAX_BUFFER, MAX_POSITION};
 use uring_base::squeue::Entry;
 use uring_base::{Buf, Loan};
 use uring_model::{Job, JobKind, Link};
@@ -17,15 +18,10 @@ pub struct Offer {
     pub reply: Reply,
 }
 
-/// The largest position and length, and the largest count that a result can tell.
-const LARGEST_PLACE: u64 = 9_223_372_036_854_775_807;
-
-const LARGEST_COUNT: usize = 2_147_483_647;
-
 fn is_in_range(offset: u64, buf: &Buf) -> bool
     ensures { result ≡ is_valid_at offset buf.now }
 {
-    buf.len() <= LARGEST_COUNT && offset <= LARGEST_PLACE - buf.len() as u64
+    buf.len() <= MAX_BUFFER && offset <= MAX_POSITION - buf.len() as u64
 }
 
 fn is_valid(job: &Job) -> bool
@@ -35,7 +31,7 @@ fn is_valid(job: &Job) -> bool
         JobKind::Read { offset, buf, .. } | JobKind::Write { offset, buf, .. } => {
             is_in_range(*offset, buf)
         }
-        JobKind::Ftruncate { len, .. } => *len <= LARGEST_PLACE,
+        JobKind::Ftruncate { len, .. } => *len <= MAX_POSITION,
         JobKind::Nop | JobKind::Fsync { .. } | JobKind::Cancel { .. } => true,
     }
 }

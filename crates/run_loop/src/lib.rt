@@ -12,7 +12,7 @@ mod round;
 mod run;
 mod slot;
 mod starts;
-mod table;
+mod job_table;
 
 pub use run::run_jobs;
 pub use uring_model::{Job, JobKind, Link, Outcome, Report, RunFault};

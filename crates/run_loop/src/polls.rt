@@ -12,10 +12,10 @@ ghost use Rattle.run_loop.specs.Flights.{outcome_polled};
 use crate::job_op::{JobOp, JobPoll};
 use rent_engine::{Engine, OpDone, OpKey, OpPoll, OpState, Poll};
 use rent_fs::{FsError, ReadAt, Sync, WriteAt};
+use ring_traits::UserEnds;
 use std::alloc::Global;
 use uring_base::Buf;
 use uring_model::Outcome;
-use ring_traits::UserEnds;
 
 /// The result that a count or an errno tells.
 fn result_of(count: Result<usize, FsError>) -> i32

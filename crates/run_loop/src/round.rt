@@ -6,24 +6,24 @@ ghost use Rattle.uring_base.specs.Causes.{HasCause};
 ghost use Rattle.ring_traits.specs.Lists.{Lists, Becomes, small};
 ghost use Rattle.run_loop.specs.Rounds.{pushed_more, IsCalm, Round, engine_fault, is_partner_fault};
 ghost use Rattle.uring_model.specs.Jobs.{model_job, is_valid_job};
-ghost use Rattle.run_loop.specs.Entries.{all_taken, entry_of, loan_of, offer_of};
+ghost use Rattle.run_loop.specs.Entries.{all_taken, job_entry, job_loan, offer_of};
 ghost use Rattle.run_loop.specs.Flights.{IsAhead, IsSettled, AreOperated, AreReplied, NoneResolved, jobs_of};
 
+use crate::job_table::JobTable;
 use crate::offers::{Due, Offers};
 use crate::starts::start_job;
-use crate::table::Table;
+use partner_traits::Partner;
 use rent_engine::{Engine, EngineFault};
+use ring_traits::{PartnerSide, UserEnds};
 use std::alloc::Global;
 use uring_model::RunFault;
-use partner_traits::Partner;
-use ring_traits::{PartnerSide, UserEnds};
 
 /// Starts the job in front, as an operation of the engine.
 fn start<R: UserEnds>(
     alloc: Global,
     engine: &mut Engine<R>,
     next: Due,
-    table: &mut Table,
+    table: &mut JobTable,
 ) -> Result<(), RunFault>
     requires operated { AreOperated engine.old.ops table.old.started table.old.slots.items (jobs_of table.old.in_flight.items) }
     requires replied { AreReplied table.old.slots.items table.old.in_flight.items }
@@ -32,7 +32,7 @@ fn start<R: UserEnds>(
     requires ahead { IsAhead table.old.started table.old.slots.items (offer_of next.number next.job) }
     requires room { 0 < R.room engine.old.ring }
     requires inside { table.old.started < vec_len table.old.slots }
-    ensures told { OnOk result (Becomes (R.lists engine.old.ring) (pushed_more (small (entry_of next.number next.job) (loan_of next.number next.job.kind) ∷ [])) (R.lists engine.new.ring)) }
+    ensures told { OnOk result (Becomes (R.lists engine.old.ring) (pushed_more (small (job_entry next.number next.job) (job_loan next.number next.job.kind) ∷ [])) (R.lists engine.new.ring)) }
     ensures room { OnOk result (R.room engine.old.ring ≡ R.room engine.new.ring + 1) }
     ensures waiting { OnOk result (R.waiting engine.new.ring ≡ R.waiting engine.old.ring) }
     ensures operated { OnOk result (AreOperated engine.new.ops table.new.started table.new.slots.items (jobs_of table.new.in_flight.items)) }
@@ -54,7 +54,7 @@ fn start_some<R: UserEnds>(
     alloc: Global,
     engine: &mut Engine<R>,
     todo: &mut Offers,
-    table: &mut Table,
+    table: &mut JobTable,
 ) -> Result<(), RunFault>
     requires inside { table.old.started + length todo.old ≤ vec_len table.old.slots }
     requires settled { IsSettled engine.old.ops table.old.started table.old.slots.items table.old.in_flight.items todo.old }
@@ -96,7 +96,7 @@ pub fn round<R: UserEnds + PartnerSide, P: Partner>(
     engine: &mut Engine<R>,
     partner: &mut P,
     todo: &mut Offers,
-    table: &mut Table,
+    table: &mut JobTable,
 ) -> Result<bool, RunFault>
     requires calm { (l : Lists) × (R.lists engine.old.ring ≡ Some l) × IsCalm l (R.room engine.old.ring) }
     requires inside { table.old.started + length todo.old ≤ vec_len table.old.slots }

@@ -14,16 +14,16 @@ ghost use Rattle.run_loop.specs.Runs.{RunSays, IsValidRun, refusal};
 
 use crate::drive::drive;
 use crate::entries::first_bad_job;
+use crate::job_table::JobTable;
 use crate::laws::model_laws;
 use crate::offers::Offers;
 use crate::slot::Slot;
-use crate::table::Table;
+use partner_traits::Partner;
 use rent_engine::Engine;
+use ring_traits::{PartnerSide, UserEnds};
 use std::alloc::{AllocError, Global};
 use uring_base::Event;
 use uring_model::{Job, Report, RunFault};
-use partner_traits::Partner;
-use ring_traits::{PartnerSide, UserEnds};
 use uring_ring::{Builder, IoUring, Parameters, SetupError};
 
 /// The events that a partner's log has from `start` on.
@@ -46,7 +46,7 @@ fn journal_since<P: Partner>(
 /// `start` on.
 fn report_of<P: Partner>(
     alloc: Global,
-    table: Table,
+    table: JobTable,
     partner: &P,
     start: usize,
 ) -> Result<Report, RunFault>
@@ -87,7 +87,7 @@ fn run_over<R: UserEnds + PartnerSide + Drop, P: Partner>(
 {
     model_laws::<P>();
     let start = partner.log_len();
-    let Ok(mut table) = Table::new(alloc, &jobs) else {
+    let Ok(mut table) = JobTable::new(alloc, &jobs) else {
         return Err(RunFault::NoMemory);
     };
     let mut todo = Offers::new(jobs);

@@ -6,23 +6,23 @@ ghost use Rattle.uring_model.specs.declared.jobs.JobKind.{JobKind};
 ghost use Rattle.uring_model.specs.Jobs.{model_job, is_valid_job, is_valid_at};
 ghost use Rattle.ring_traits.specs.Lists.{Becomes, small};
 ghost use Rattle.rent_engine.specs.Ops.{knows, started};
-ghost use Rattle.run_loop.specs.Entries.{words_of, loan_of, entry_of, offer_of};
+ghost use Rattle.run_loop.specs.Entries.{job_words, job_loan, job_entry, offer_of};
 ghost use Rattle.run_loop.specs.Rounds.{pushed_more};
 ghost use Rattle.run_loop.specs.Steps.{mark_bits, IsBegun};
 ghost use Rattle.run_loop.specs.Told.{reply_for};
 ghost use Rattle.run_loop.specs.declared.slot.Reply.TheVariants as replies;
 
-use crate::job_op::JobOp;
 use bitflags::Flags as _;
+use crate::job_op::JobOp;
 use rent_engine::{Engine, OpState, Poll, StartFault};
 use rent_fs::File;
+use ring_traits::UserEnds;
 use std::alloc::Global;
 use uring_base::Buf;
 use uring_base::squeue::{Entry, Flags};
 use uring_base::types::Fixed;
 use uring_model::{Job, JobKind, Link, RunFault};
 use uring_ops_file::{AsyncCancel, Ftruncate, Nop};
-use ring_traits::UserEnds;
 
 /// The flags of a job's marks.
 fn marks(drain: bool, link: Link) -> Flags
@@ -43,7 +43,7 @@ fn marks(drain: bool, link: Link) -> Flags
 /// The words of a job that the engine itself starts.
 fn plain_words(kind: JobKind) -> Entry
     requires { reply_for kind ≡ replies.Plain }
-    ensures { (number : ℕ) → result ≡ words_of number kind }
+    ensures { (number : ℕ) → result ≡ job_words number kind }
 {
     match kind {
         JobKind::Nop => Nop::new().build(),

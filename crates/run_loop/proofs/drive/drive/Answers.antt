@@ -14,7 +14,7 @@ use Rattle.run_loop.specs.declared.slot.Slot.{Slot}
 use Rattle.run_loop.specs.Slots.{count_open}
 use Rattle.run_loop.specs.Driven.{Driven, IsGivenUp}
 use Rattle.run_loop.proofs.Posts.{slots-length}
-use Rattle.run_loop.proofs.Running.{Running, few_open, running_first, running_next, running_ran, next_faulted, next_count, stalled_end, whole_end, some_open, left_open, if_some, slots_stay, smaller, quiet_below, next_of}
+use Rattle.run_loop.proofs.Running.{Running, few_open, running_first, running_next, running_ran, next_faulted, next_count, stalled_end, whole_end, some_open, left_open, if_some, slots_stay, smaller, idled_below, next_of}
 use Rattle.run_loop.proofs.drive.drive.Goals as goal
 
 -- with nothing planned at first, one more round leaves the count of faults as the rounds before it did
@@ -42,11 +42,11 @@ rounds-init g c =
     )
 
 -- no start, since memory lacked: the run so far
-unserved : {W : Type 0} (mach : schedule.Machine W) (view : W → Files) (Plain : W → Type 0) {P R : Type 0} (log : P → Option (List LogEvent)) (state : P → Option (schedule.State W)) (lists : R → Option Lists) (first now new : P) (ring : R) (room : ℕ) (todo : List Taken) (started : ℕ) (slots : List Slot) (offers : List Offer) (capacity idle quiet : ℕ) (e : RunFault)
-    → Running mach view Plain log state lists first now ring room todo started slots offers capacity idle quiet → 0 < count_open slots → quiet < idle → (e ≡ faults.NoMemory) × (new ≡ now) → (r : Driven mach log state first new offers capacity idle) × IsGivenUp offers idle (log_of r.moves) e
-unserved mach view Plain log state lists first now new ring room todo started slots offers capacity idle quiet e run left waits h =
-    let few = few_open mach view Plain log state lists first now ring room todo started slots offers capacity idle quiet run left waits in
-    let driven : Driven mach log state first now offers capacity idle = running_ran mach view Plain log state lists first now ring room todo started slots offers capacity idle quiet run few in
+unserved : {W : Type 0} (mach : schedule.Machine W) (view : W → Files) (Plain : W → Type 0) {P R : Type 0} (log : P → Option (List LogEvent)) (state : P → Option (schedule.State W)) (lists : R → Option Lists) (first now new : P) (ring : R) (room : ℕ) (todo : List Taken) (started : ℕ) (slots : List Slot) (offers : List Offer) (capacity idle idled : ℕ) (e : RunFault)
+    → Running mach view Plain log state lists first now ring room todo started slots offers capacity idle idled → 0 < count_open slots → idled < idle → (e ≡ faults.NoMemory) × (new ≡ now) → (r : Driven mach log state first new offers capacity idle) × IsGivenUp offers idle (log_of r.moves) e
+unserved mach view Plain log state lists first now new ring room todo started slots offers capacity idle idled e run left waits h =
+    let few = few_open mach view Plain log state lists first now ring room todo started slots offers capacity idle idled run left waits in
+    let driven : Driven mach log state first now offers capacity idle = running_ran mach view Plain log state lists first now ring room todo started slots offers capacity idle idled run few in
     subst (λ n. (r : Driven mach log state first n offers capacity idle) × IsGivenUp offers idle (log_of r.moves) e) (sym h.1) (driven, subst (IsGivenUp offers idle (log_of driven.moves)) (sym h.0) tt)
 
 pub returns-in_err-fin-clause-run : goal.returns-in_err-fin-clause-run
@@ -66,40 +66,40 @@ returns-in_err-fin-clause-calm g c =
     let s = c.rounds.invariant in
     still_calm _ _ _ _ _ _ _ _ _ s.0.states s.4 s.6 c.in_err-fin.ensures.counted
 
-pub returns-then-quiet-idle-clause-run : goal.returns-then-quiet-idle-clause-run
-returns-then-quiet-idle-clause-run g c =
+pub returns-then-idled-idle-clause-run : goal.returns-then-idled-idle-clause-run
+returns-then-idled-idle-clause-run g c =
     let s = c.rounds.invariant in
     let d = c.in_ok-fin.ensures in
     let x = next_of _ _ _ _ _ _ _ _ _ _ _ _ _ _ _ _ _ _ _ c.args.todo.now _ _ _ _ c.model_laws.ensures s.0 d.round g.R.Rings.keeps d.inside (some_open _ _ c.is_whole.ensures.1 c.rounds-test.true) s.1 in
-    let y = running_next _ _ _ _ _ _ _ _ _ _ _ _ _ _ _ _ _ _ _ c.args.todo.now _ _ _ _ _ c.quiet_after-quiet.result x d.calm c.quiet_after-quiet.ensures in
-    let e = stalled_end _ _ _ _ _ _ _ _ _ _ _ _ _ c.args.todo.now _ _ _ y c.if-quiet-idle.true (left_open _ _ _ y.resting c.if-quiet-idle.true c.requires.idle) in
+    let y = running_next _ _ _ _ _ _ _ _ _ _ _ _ _ _ _ _ _ _ _ c.args.todo.now _ _ _ _ _ c.idle_after-idled.result x d.calm c.idle_after-idled.ensures in
+    let e = stalled_end _ _ _ _ _ _ _ _ _ _ _ _ _ c.args.todo.now _ _ _ y c.if-idled-idle.true (left_open _ _ _ y.resting c.if-idled-idle.true c.requires.idle) in
     (running_ran _ _ _ _ _ _ _ _ _ _ _ _ _ c.args.todo.now _ _ _ y e.0, e.1)
 
-pub returns-then-quiet-idle-clause-unstalled : goal.returns-then-quiet-idle-clause-unstalled
-returns-then-quiet-idle-clause-unstalled g c =
+pub returns-then-idled-idle-clause-unstalled : goal.returns-then-idled-idle-clause-unstalled
+returns-then-idled-idle-clause-unstalled g c =
     let s = c.rounds.invariant in
     let d = c.in_ok-fin.ensures in
     let x = next_of _ _ _ _ _ _ _ _ _ _ _ _ _ _ _ _ _ _ _ c.args.todo.now _ _ _ _ c.model_laws.ensures s.0 d.round g.R.Rings.keeps d.inside (some_open _ _ c.is_whole.ensures.1 c.rounds-test.true) s.1 in
-    let y = running_next _ _ _ _ _ _ _ _ _ _ _ _ _ _ _ _ _ _ _ c.args.todo.now _ _ _ _ _ c.quiet_after-quiet.result x d.calm c.quiet_after-quiet.ensures in
-    if_some (g.P.Partner.state c.args.partner.now) (λ a. IsIdle g.P.Partner.Plain a → true ≡ false) (λ a told idle. absurd (omega (arith, (y.prompt a told idle).0, c.if-quiet-idle.true, c.requires.idle)))
+    let y = running_next _ _ _ _ _ _ _ _ _ _ _ _ _ _ _ _ _ _ _ c.args.todo.now _ _ _ _ _ c.idle_after-idled.result x d.calm c.idle_after-idled.ensures in
+    if_some (g.P.Partner.state c.args.partner.now) (λ a. IsIdle g.P.Partner.Plain a → true ≡ false) (λ a told idle. absurd (omega (arith, (y.prompt a told idle).0, c.if-idled-idle.true, c.requires.idle)))
 
 pub rounds-smaller : goal.rounds-smaller
 rounds-smaller g c =
     let s = c.rounds.invariant in
     let d = c.in_ok-fin.ensures in
     let x = next_of _ _ _ _ _ _ _ _ _ _ _ _ _ _ _ _ _ _ _ c.args.todo.now _ _ _ _ c.model_laws.ensures s.0 d.round g.R.Rings.keeps d.inside (some_open _ _ c.is_whole.ensures.1 c.rounds-test.true) s.1 in
-    smaller c.in_ok-fin.fin _ _ _ _ _ (next_count _ _ _ _ _ _ _ _ _ _ _ _ _ _ _ _ _ _ _ c.args.todo.now _ _ _ _ x) c.quiet_after-quiet.ensures (omega (arith, s.1))
+    smaller c.in_ok-fin.fin _ _ _ _ _ (next_count _ _ _ _ _ _ _ _ _ _ _ _ _ _ _ _ _ _ _ c.args.todo.now _ _ _ _ x) c.idle_after-idled.ensures (omega (arith, s.1))
 
 pub rounds-preserved : goal.rounds-preserved
 rounds-preserved g c =
     let s = c.rounds.invariant in
     let d = c.in_ok-fin.ensures in
     let x = next_of _ _ _ _ _ _ _ _ _ _ _ _ _ _ _ _ _ _ _ c.args.todo.now _ _ _ _ c.model_laws.ensures s.0 d.round g.R.Rings.keeps d.inside (some_open _ _ c.is_whole.ensures.1 c.rounds-test.true) s.1 in
-    let y = running_next _ _ _ _ _ _ _ _ _ _ _ _ _ _ _ _ _ _ _ c.args.todo.now _ _ _ _ _ c.quiet_after-quiet.result x d.calm c.quiet_after-quiet.ensures in
+    let y = running_next _ _ _ _ _ _ _ _ _ _ _ _ _ _ _ _ _ _ _ c.args.todo.now _ _ _ _ _ c.idle_after-idled.result x d.calm c.idle_after-idled.ensures in
     let before = slots_stay _ _ _ _ _ _ _ _ _ _ _ _ _ c.args.todo.now _ _ _ s.0 in
     let after = slots_stay _ _ _ _ _ _ _ _ _ _ _ _ _ c.args.todo.now _ _ _ y in (
       y,
-      quiet_below c.in_ok-fin.fin _ _ _ c.quiet_after-quiet.ensures (omega (arith, s.1)) c.if-quiet-idle.false,
+      idled_below c.in_ok-fin.fin _ _ _ c.idle_after-idled.ensures (omega (arith, s.1)) c.if-idled-idle.false,
       omega (arith, before, after, s.2, d.inside),
       omega (arith, s.3, d.cause.later),
       λ p. d.plan (s.4 p),

@@ -8,8 +8,8 @@ use Rattle.run_loop.proofs.drive.drive.Given as goal
 -- the run so far
 abbrev pub invariant-rounds : goal.invariant-rounds
 invariant-rounds g l =
-    (w : Running g.P.Partner.machine g.P.Partner.view g.P.Partner.Plain g.P.Partner.log g.P.Partner.state g.R.Rings.lists l.initial.partner l.partner l.engine.ring (g.R.UserEnds.room l.engine.ring) (all_taken l.todo) l.table.started l.table.slots.items l.initial.todo (g.R.UserEnds.entries_fit l.initial.engine.ring) l.fn.idle l.quiet)
-    × (l.quiet < l.fn.idle)
+    (w : Running g.P.Partner.machine g.P.Partner.view g.P.Partner.Plain g.P.Partner.log g.P.Partner.state g.R.Rings.lists l.initial.partner l.partner l.engine.ring (g.R.UserEnds.room l.engine.ring) (all_taken l.todo) l.table.started l.table.slots.items l.initial.todo (g.R.UserEnds.entries_fit l.initial.engine.ring) l.fn.idle l.idled)
+    × (l.idled < l.fn.idle)
     × (l.table.started + length l.todo ≤ length l.table.slots.items)
     × (g.P.Counts.faults l.initial.partner ≤ g.P.Counts.faults l.partner)
     × (g.P.Partner.plan l.initial.partner ≡ [] → g.P.Partner.plan l.partner ≡ [])
@@ -17,4 +17,4 @@ invariant-rounds g l =
     × IfSome (g.P.Partner.state l.initial.partner) (λ _. g.P.Partner.plan l.initial.partner ≡ [] → g.P.Counts.faults l.partner ≡ g.P.Counts.faults l.initial.partner)
 
 abbrev pub decreases-rounds : goal.decreases-rounds
-decreases-rounds g l = count_open l.table.slots.items * (l.fn.idle + 1) + (l.fn.idle - l.quiet)
+decreases-rounds g l = count_open l.table.slots.items * (l.fn.idle + 1) + (l.fn.idle - l.idled)

@@ -5,7 +5,7 @@ use Rattle.run_loop.specs.Flights.{AreOperated, jobs_of}
 use Rattle.run_loop.specs.JobOps.{reply_of}
 use Rattle.run_loop.proofs.FlightLemmas.{polled_next, all_left, none_polled, none_of}
 use Rattle.run_loop.proofs.LentLemmas.{can_poll, replied_next}
-use Rattle.run_loop.proofs.table.Table.poll_all.Goals as goal
+use Rattle.run_loop.proofs.job_table.JobTable.poll_all.Goals as goal
 
 pub loop-left-init : goal.loop-left-init
 loop-left-init g c =

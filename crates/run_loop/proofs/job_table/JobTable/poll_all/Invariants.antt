@@ -1,7 +1,7 @@
 use Rattle.std.proofs.Common.{◌≡◌, ℕ, List, ◌++◌, length}
 use Rattle.run_loop.specs.Flights.{AreOperated, AreReplied, all_polled, jobs_of}
 use Rattle.run_loop.proofs.FlightLemmas.{NoneLeftResolved}
-use Rattle.run_loop.proofs.table.Table.poll_all.Given as goal
+use Rattle.run_loop.proofs.job_table.JobTable.poll_all.Given as goal
 
 -- the jobs that are still to be polled, and those that were and are left
 abbrev pub invariant-loop-left : goal.invariant-loop-left

@@ -1,6 +1,6 @@
 use Rattle.std.proofs.Common.{arith}
 use Rattle.run_loop.proofs.SlotLemmas.{count_of_done}
-use Rattle.run_loop.proofs.table.Table.finish.Goals as goal
+use Rattle.run_loop.proofs.job_table.JobTable.finish.Goals as goal
 
 pub overflow_sub-self : goal.overflow_sub-self
 overflow_sub-self c = omega (arith, count_of_done c.args.self.now.slots.items c.args.place c.requires.0 c.args.outcome c.requires.1, c.args.self.now.counted)

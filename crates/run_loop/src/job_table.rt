@@ -8,15 +8,15 @@ use crate::job_op::{JobOp, JobPoll};
 use crate::polls::poll_job;
 use crate::slot::{Slot, reply_for};
 use rent_engine::Engine;
+use ring_traits::UserEnds;
 use std::alloc::{AllocError, Global};
 use std::collections::VecDeque;
 use uring_model::{Job, Outcome};
-use ring_traits::UserEnds;
 
 /// A slot for each job. The first `started` jobs are started, `unfinished` have no outcome, and
 /// those that are started and have none are in flight.
 #[derive(Drop)]
-pub struct Table {
+pub struct JobTable {
     slots: Vec<Slot>,
     started: usize,
     unfinished: usize,
@@ -25,7 +25,7 @@ pub struct Table {
     ghost within: { started ≤ vec_len slots },
 }
 
-impl Table {
+impl JobTable {
     ghost use Rattle.std.specs.Prelude.{◌≡◌, ◌+◌, ◌<◌, ◌↔◌, ◌++◌, ◌∷◌, [], IsTrue, IfOk, OnOk, IfSome, Some, ℕ, map, slice_get, slice_set};
     ghost use Rattle.std.specs.List.{AllByRecursion};
     ghost use Rattle.rent_engine.specs.Ops.{done_at, polled, taken_out};
@@ -36,12 +36,12 @@ impl Table {
     ghost use Rattle.run_loop.specs.Steps.{CanBePolled};
 
     /// A table of open slots.
-    pub fn new(alloc: Global, jobs: &[Job]) -> Result<Table, AllocError>
+    pub fn new(alloc: Global, jobs: &[Job]) -> Result<JobTable, AllocError>
         ensures slots { IfOk result (λ table. table.slots.items ≡ open_slots jobs.now) }
         ensures started { IfOk result (λ table. table.started ≡ 0) }
         ensures none { IfOk result (λ table. table.in_flight.items ≡ []) }
     {
-        Ok(Table {
+        Ok(JobTable {
             slots: all_open(alloc, jobs)?,
             started: 0,
             unfinished: jobs.len(),

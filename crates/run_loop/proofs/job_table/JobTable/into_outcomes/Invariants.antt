@@ -2,7 +2,7 @@ use Rattle.std.proofs.Common.{◌≡◌, ◌++◌, map}
 use Rattle.std.specs.VecDeque.{deque_len}
 use Rattle.run_loop.specs.declared.slot.Slot.TheVariants.{Done}
 use Rattle.run_loop.specs.Slots.{count_open}
-use Rattle.run_loop.proofs.table.Table.into_outcomes.Given as goal
+use Rattle.run_loop.proofs.job_table.JobTable.into_outcomes.Given as goal
 
 -- the outcomes so far and the slots left are the slots
 abbrev pub invariant-loop-slot : goal.invariant-loop-slot
