@@ -1,12 +1,14 @@
 -- A machine over any world, seen as another by who knows that one alone.
-use Rattle.std.specs.Prelude.{◌≡◌, ℕ, Bool, List, [], ◌++◌, ℤ, Option, None}
+use Rattle.std.specs.Prelude.{◌≡◌, ℕ, Bool, List, [], ℤ, Option, None}
 use Rattle.std.specs.List.{AllByRecursion}
 use Rattle.uring_base.specs.declared.events.Taken.{Taken}
 use Rattle.uring_model.specs.Machine.{Answer, Files}
 use Rattle.uring_model.specs.Moves.{Move, took}
-use Rattle.uring_model.specs.Schedule.{Machine, State, Steps, IsServed, turn}
+use Rattle.uring_model.specs.Schedule.{Machine, State, Steps, turn}
 use Rattle.uring_model.specs.Partner.{file_machine}
 use Rattle.uring_model.specs.Asks.{IsJobEntry}
+use Rattle.uring_model.specs.Joins.{CallsJoin, NoCallStays}
+use Rattle.uring_model.specs.Progress.{TurnsAreMoves, PostsFitRoom, NoneIsLost, TurnsAreFew, ReadySettles}
 
 pub record Agrees {W V : Type 0} (view : W → V) (a : Answer W) (b : Answer V) : Type 0 where
   pub result : a.result ≡ b.result
@@ -33,10 +35,16 @@ pub record IsIdle {W : Type 0} (Plain : W → Type 0) (a : State W) : Type 0 whe
   pub tail : a.tail ≡ None
   pub plain : Plain a.world
 
--- what callers stand on, of any machine that refines the files'
+-- What callers stand on, of any machine that refines the files'. The laws of the schedule hold of every machine; while its
+-- world is plain, and nothing is asked but the six operations of jobs, its moves and turns are those of the files.
 pub record WorldLaws {W : Type 0} (m : Machine W) (view : W → Files) (Plain : W → Type 0) : Type 0 where
-  pub join : (a b c : Option (State W)) (ms ns : List Move) → IsServed m a ms b → IsServed m b ns c → IsServed m a (ms ++ ns) c
-  pub stay : (s : Option (State W)) → IsServed m s [] s
+  pub join : CallsJoin m
+  pub stay : NoCallStays m
+  pub moves : TurnsAreMoves m
+  pub room : PostsFitRoom m
+  pub kept : NoneIsLost m
+  pub few : TurnsAreFew m
+  pub ready : ReadySettles m
   pub steps_seen : (over : Bool) (a b : State W) (ms : List Move) → IsPlainState Plain IsJobEntry a → AllByRecursion IsJobEntry (took ms) → Steps m over a ms b → Steps file_machine over (viewed view a) ms (viewed view b) × IsPlainState Plain IsJobEntry b
   pub turns_seen : (room : ℕ) (ts : List Taken) (a : State W) → IsPlainState Plain IsJobEntry a → AllByRecursion IsJobEntry ts
       → ((turn m ts room a).posts ≡ (turn file_machine ts room (viewed view a)).posts) × (viewed view (turn m ts room a).state ≡ (turn file_machine ts room (viewed view a)).state) × IsPlainState Plain IsJobEntry (turn m ts room a).state
