@@ -9,9 +9,9 @@ use Rattle.uring_model.specs.declared.pending.Pending.{Pending}
 use Rattle.uring_model.specs.Jobs.{Job, linked}
 use Rattle.uring_model.specs.Replay.{Row, Open, Done, waits, drains_done, all_done, may, keep_if}
 use Rattle.uring_model.specs.Chosen.{choice, stops}
-use Rattle.uring_model.specs.Moves.{Move, Turned, Took, Posted, took, posted}
+use Rattle.uring_model.specs.Moves.{Turned, Took, Posted}
 use Rattle.uring_model.specs.Asks.{job_of}
-use Rattle.uring_model.specs.Schedule.{Machine, State, cut_of, Cursor, is_ready, ready_cursors, cursors, mark_first, mark_first_if, pass, answer_to, named, after_take, cut_after, settled_by, Settles, Steps}
+use Rattle.uring_model.specs.Schedule.{Machine, State, cut_of, Cursor, is_ready, ready_cursors, cursors, mark_first, mark_first_if, pass, answer_to, named, after_take, cut_after, settled_by, Settles}
 use Rattle.uring_model.specs.Partner.{file_machine, PartnerState}
 use Rattle.uring_model.specs.Partner as files
 use Rattle.uring_model.specs.Progress.{AlwaysAnswers, FrontIsReady, NoneIsLost}

@@ -4,7 +4,7 @@ use Rattle.std.proofs.Common.{ap, sym, subst, arith}
 use Rattle.uring_base.specs.declared.events.Taken.{Taken}
 use Rattle.uring_base.specs.declared.events.Completion.{Completion}
 use Rattle.uring_model.specs.Chosen.{choice, stops}
-use Rattle.uring_model.specs.Moves.{Move, Turned, Took, Posted, took, posted}
+use Rattle.uring_model.specs.Moves.{Move, Turned, Took, Posted, posted}
 use Rattle.uring_model.specs.Schedule.{Machine, State, Cursor, answer_to, completion_of, named, cursors, after_take, Steps, Outturn, posting, stays, settled_by, settle_then, settle_turn, take_all, turn}
 use Rattle.uring_model.specs.Partner.{file_machine, PartnerState}
 use Rattle.uring_model.specs.Partner as files

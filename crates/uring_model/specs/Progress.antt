@@ -32,10 +32,11 @@ EachPosts owed (Posted c ∷ ms) = EachPosts false ms
 abbrev pub LowestMaySettle : Type 0
 LowestMaySettle = (before : List Row) (job : Job) → all_done before ≡ true → may before job ≡ true
 
--- a turn that posts is one of those that `EachPosts` asks for, and so are two in a row
+-- a turn that posts is one of those that `EachPosts` asks for
 abbrev pub PostingTurns : Type 0
 PostingTurns = (p : ℕ) (ts : List Taken) (cs : List Completion) → 0 < length cs → EachPosts false (moves_of_turn p ts cs)
 
+-- two lists of such turns in a row are such a list
 abbrev pub PostingTurnsJoin : Type 0
 PostingTurnsJoin = (ms ns : List Move) → EachPosts false ms → EachPosts false ns → EachPosts false (ms ++ ns)
 
