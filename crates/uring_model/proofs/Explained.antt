@@ -6,7 +6,7 @@ use Rattle.uring_model.specs.Machine.{Files}
 use Rattle.uring_model.specs.Jobs.{Job}
 use Rattle.uring_model.specs.Replay.{last_unlinked}
 use Rattle.uring_model.specs.Moves.{Move, took, posted}
-use Rattle.uring_model.specs.Partner.{job_of, PartnerState, Steps, IsServed, IsIdle, idle}
+use Rattle.uring_model.specs.Partner.{file_machine, job_of, PartnerState, Steps, IsServed, IsIdle, idle}
 use Rattle.uring_model.specs.Explained.{Numbered, record_all, AllFresh, Explained}
 use Rattle.uring_model.proofs.Simulation.{explained}
 use Rattle.uring_model.proofs.Joins.{served_from}
@@ -33,7 +33,7 @@ moves_explained jobs files choices ms ahead b asks numbered h =
 pub calls_explained : (jobs : List Job) (files : Files) (choices : List ℕ) (ms : List Move) (ahead : List Taken) (b : PartnerState)
     → map job_of (took ms ++ ahead) ≡ last_unlinked jobs → Numbered 0 (took ms ++ ahead) → IsServed (Some (idle files choices)) ms (Some b) → Explained jobs files choices ms b
 calls_explained jobs files choices ms ahead b asks numbered h =
-    moves_explained jobs files choices ms ahead b asks numbered (served_from false (idle files choices) b ms h)
+    moves_explained jobs files choices ms ahead b asks numbered (served_from file_machine false (idle files choices) b ms h)
 
 -- an idle partner is known by its files and choices
 pub idle_is : (a : PartnerState) → IsIdle a → a ≡ idle a.world a.choices
@@ -41,7 +41,7 @@ idle_is a h = λ i. record { world = a.world; pending = h.pending i; tail = h.ta
 
 -- whole calls to an idle partner are moves from its files and choices
 pub idle_moves : (a b : PartnerState) (ms : List Move) → IsIdle a → IsServed (Some a) ms (Some b) → Steps false (idle a.world a.choices) ms b
-idle_moves a b ms h k = served_from false (idle a.world a.choices) b ms (subst (λ x. Steps true x ms b) (idle_is a h) k)
+idle_moves a b ms h k = served_from file_machine false (idle a.world a.choices) b ms (subst (λ x. Steps true x ms b) (idle_is a h) k)
 
 pub idle_explained : (jobs : List Job) (ms : List Move) (ahead : List Taken) (a b : PartnerState)
     → IsIdle a → map job_of (took ms ++ ahead) ≡ last_unlinked jobs → Numbered 0 (took ms ++ ahead) → IsServed (Some a) ms (Some b) → Explained jobs a.world a.choices ms b

@@ -18,5 +18,4 @@ pub mod Places
 pub mod WorkedRows
 pub mod EntryRows
 pub mod StrangeRows
-pub mod Seen
-pub mod WorldJoins
+pub mod Refining

@@ -1,5 +1,5 @@
--- What an entry asks, and how it is linked.
-use Rattle.std.specs.Prelude.{◌≡◌, ℕ, Bool, true, false, ◌&&◌, cond, nat_lt, nat_eq, List, length, Option, Some, None}
+-- What an entry asks: its operation, buffer, drain and link, as a job.
+use Rattle.std.specs.Prelude.{◌≡◌, ℕ, Bool, true, false, ◌&&◌, cond, nat_lt, nat_eq, length, Option, Some, None}
 use Rattle.std.specs.Int.{w32, cast_unsigned}
 use Rattle.uring_base.specs.declared.squeue.Entry.{Entry}
 use Rattle.uring_base.specs.declared.buffer.Loan.{Loan}
@@ -16,8 +16,6 @@ use Rattle.uring_model.specs.declared.jobs.Link.TheVariants.{Free, Soft, Hard}
 use Rattle.uring_model.specs.Machine.{Op, Nop, Read, Write, Fsync, Ftruncate, Cancel, Refused}
 use Rattle.uring_model.specs.Jobs.{Job}
 
--- what an entry asks
-
 -- a read or write without a loan, or with a part whose length is no result, is refused
 abbrev pub unless_lacking : Option Loan → Op → Op
 unless_lacking None op = Refused (error_result EINVAL)
@@ -27,7 +25,7 @@ unless_lacking (Some l) op = cond (nat_lt MAX_BUFFER (length (part_of (Some l)))
 abbrev pub file_of : Entry → ℕ
 file_of e = cast_unsigned w32 e.fd
 
--- Buffer selection isn't served; a cancel is served by number alone.
+-- The operation of an entry. Buffer selection isn't served; a cancel is served by number alone.
 abbrev pub op_of : Taken → Op
 op_of t =
     cond (has_flags t.entry.flags BUFFER_SELECT) (Refused (error_result EOPNOTSUPP))
@@ -39,10 +37,11 @@ op_of t =
     (cond (nat_eq t.entry.opcode opcodes.ASYNC_CANCEL && nat_eq t.entry.op 0) (Cancel t.entry.addr)
     (Refused (error_result EOPNOTSUPP))))))))
 
--- an entry with both link bits is read as soft
+-- the link that the flags say; an entry with both link bits is read as soft
 abbrev pub link_of : ℕ → Link
 link_of flags = cond (has_flags flags IO_LINK) Soft (cond (has_flags flags IO_HARDLINK) Hard Free)
 
+-- the job that an entry asks; its buffer is the lent part of the loan
 abbrev pub job_of : Taken → Job
 job_of t = record { op = op_of t; buf = part_of t.loan; drain = has_flags t.entry.flags IO_DRAIN; link = link_of t.entry.flags }
 

@@ -9,9 +9,11 @@ abbrev pub choice : List ℕ → ℕ
 choice [] = 1
 choice (c ∷ cs) = c
 
+-- an even choice ends its turn
 abbrev pub stops : ℕ → Bool
 stops c = nat_eq (c % 2) 0
 
+-- the numbers of the jobs at these places
 abbrev pub numbers : List Place → List ℕ
 numbers ps = map (λ p. length p.before) ps
 
@@ -19,11 +21,12 @@ numbers ps = map (λ p. length p.before) ps
 abbrev pub Names : ℕ → List ℕ → ℕ → Type 0
 Names c js j = slice_get js ((c / 2) % length js) ≡ Some j
 
--- the settlings are those that the choices name, and an even choice ends its turn; `over` says that the turn is over
+-- it goes on where the event took place
 abbrev pub IsChosenNext : Option State → (State → Type 0) → Type 0
 IsChosenNext None go = Unit {0}
 IsChosenNext (Some s) go = go s
 
+-- the settlings are those that the choices name, and an even choice ends its turn; `over` says that the turn is over
 abbrev pub IsChosen : List Event → List ℕ → Bool → State → Type 0
 IsChosen [] cs over s = Unit {0}
 IsChosen (Turn p ∷ es) cs over s = IsChosenNext (replay_event s (Turn p)) (IsChosen es cs false)

@@ -8,10 +8,11 @@ use Rattle.uring_model.specs.Moves.{Move, took, posted, journal_of, log_of}
 use Rattle.uring_model.specs.Partner.{job_of, PartnerState, Steps, IsIdle, idle}
 use Rattle.uring_model.specs.Explained.{Numbered, Explained}
 
--- each outcome is set exactly where the state is whole
+-- where each outcome is set, the state is whole
 abbrev pub WholeWhereSet : Type 0
 WholeWhereSet = (s : State) → All IsSome (table s) → IsWhole s
 
+-- where the state is whole, each outcome is set
 abbrev pub SetWhereWhole : Type 0
 SetWhereWhole = (s : State) → IsWhole s → All IsSome (table s)
 

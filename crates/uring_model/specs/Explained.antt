@@ -19,6 +19,7 @@ Numbered n (t ∷ ts) = (t.entry.user_data ≡ n) × Numbered (n + 1) ts
 abbrev pub record_one : List (Option Result) → Completion → List (Option Result)
 record_one outs c = slice_set outs c.user_data (Some (record { result = c.result; buf = part_of c.loan }))
 
+-- the table with what all these say
 abbrev pub record_all : List (Option Result) → List Completion → List (Option Result)
 record_all outs [] = outs
 record_all outs (c ∷ cs) = record_all (record_one outs c) cs

@@ -22,7 +22,7 @@ pub record HasOwnLoan (lends : ℕ → Bool) (t : Taken) : Type 0 where
   pub lent : lends t.entry.user_data ≡ is_some t.loan
   pub number : has_other_number t.entry.user_data t.loan ≡ false
 
--- the law
+-- An idle partner over entries that ask what the jobs ask, each with its own loan, posts nothing strange.
 abbrev pub NoPostIsStrange : Type 0
 NoPostIsStrange =
     (lends : ℕ → Bool) (jobs : List Job) (files : Files) (choices : List ℕ) (ms : List Move) (ahead : List Taken) (b : PartnerState)

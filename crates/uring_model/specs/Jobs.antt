@@ -21,6 +21,7 @@ linked Free = false
 linked Soft = true
 linked Hard = true
 
+-- whether a bad result cuts the next job
 abbrev pub is_soft : Link → Bool
 is_soft Free = false
 is_soft Soft = true
@@ -40,6 +41,7 @@ moves_bytes (Refused code) = false
 abbrev pub is_valid_at : ℕ → List ℕ → Bool
 is_valid_at offset buf = nat_le (length buf) MAX_BUFFER && nat_le (offset + length buf) MAX_POSITION
 
+-- the operation's numbers are in range
 abbrev pub is_valid_op : Op → List ℕ → Bool
 is_valid_op Nop buf = true
 is_valid_op (Read file offset) buf = is_valid_at offset buf
@@ -49,11 +51,13 @@ is_valid_op (Ftruncate file len) buf = nat_le len MAX_POSITION
 is_valid_op (Cancel t) buf = true
 is_valid_op (Refused code) buf = true
 
+-- so are the job's
 abbrev pub is_valid_job : Job → Bool
 is_valid_job job = is_valid_op job.op job.buf
 
 -- a job of the program
 
+-- the operation that it asks
 abbrev pub model_op : JobKind → Op
 model_op kinds.Nop = Nop
 model_op (kinds.Read file offset buf) = Read file offset
@@ -62,6 +66,7 @@ model_op (kinds.Fsync file) = Fsync file
 model_op (kinds.Ftruncate file len) = Ftruncate file len
 model_op (kinds.Cancel job) = Cancel job
 
+-- the buffer that it lends, which is empty where it lends none
 abbrev pub buf_lent : JobKind → List ℕ
 buf_lent kinds.Nop = []
 buf_lent (kinds.Read file offset buf) = buf
@@ -70,8 +75,10 @@ buf_lent (kinds.Fsync file) = []
 buf_lent (kinds.Ftruncate file len) = []
 buf_lent (kinds.Cancel job) = []
 
+-- what it is for the definitions
 abbrev pub model_job : code.Job → Job
 model_job job = record { op = model_op job.kind; buf = buf_lent job.kind; drain = job.drain; link = job.link }
 
+-- what a list of them is
 abbrev pub model_jobs : List code.Job → List Job
 model_jobs jobs = map model_job jobs

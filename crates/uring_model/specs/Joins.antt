@@ -4,6 +4,7 @@ use Rattle.uring_base.specs.declared.events.Taken.{Taken}
 use Rattle.uring_base.specs.declared.events.Completion.{Completion}
 use Rattle.uring_base.specs.declared.events.LogEvent.{LogEvent}
 use Rattle.uring_model.specs.Moves.{Move, Took, Posted, took, posted, IsLogged}
+use Rattle.uring_model.specs.Schedule.{Machine, State, IsServed}
 use Rattle.uring_model.specs.Progress.{turns}
 use Rattle.uring_model.specs.Honest.{TakesWithinTurns}
 
@@ -22,3 +23,12 @@ pub record NoMoveStays : Type 0 where
 -- a turn's moves post what it says that they do
 abbrev pub TurnsPostTheirs : Type 0
 TurnsPostTheirs = (ts : List Taken) (cs : List Completion) → posted (map Took ts ++ map Posted cs) ≡ cs
+
+module _ {W : Type 0} (m : Machine W) where
+  -- the moves of calls in a row lead on as those of one
+  abbrev pub CallsJoin : Type 0
+  CallsJoin = (a b c : Option (State W)) (ms ns : List Move) → IsServed m a ms b → IsServed m b ns c → IsServed m a (ms ++ ns) c
+
+  -- a call that moves nothing leaves the state as it was
+  abbrev pub NoCallStays : Type 0
+  NoCallStays = (s : Option (State W)) → IsServed m s [] s

@@ -17,3 +17,4 @@ pub mod Joins
 pub mod Words
 pub mod Rows
 pub mod Refines
+pub mod Faults

@@ -27,10 +27,12 @@ pub record State : Type 0 where
 abbrev pub due : Op → List ℕ → ℕ
 due op buf = if moves_bytes op then length buf else 0
 
+-- a failure, or a count that is less
 abbrev pub below : ℤ → ℕ → Bool
 below (pos n) least = nat_lt n least
 below (negsuc n) least = true
 
+-- whether this result of a job cuts a soft link: it is less than what is due
 abbrev pub is_bad : Job → ℤ → Bool
 is_bad job r = below r (due job.op job.buf)
 
@@ -50,11 +52,13 @@ severed s [] = s
 severed s (Open job m ∷ rows) = severed (linked job.link && s) rows
 severed s (Done job r ∷ rows) = severed (cuts s job r.result) rows
 
+-- no drained job of these is open
 abbrev pub drains_done : List Row → Bool
 drains_done [] = true
 drains_done (Open job m ∷ rows) = not job.drain && drains_done rows
 drains_done (Done job r ∷ rows) = drains_done rows
 
+-- no job of these is open
 abbrev pub all_done : List Row → Bool
 all_done [] = true
 all_done (Open job m ∷ rows) = false
@@ -71,6 +75,7 @@ pub record Place : Type 0 where
 abbrev pub may : List Row → Job → Bool
 may before job = not (waits false before) && drains_done before && (not job.drain || all_done before)
 
+-- the list with this in front, where the test holds
 abbrev pub keep_if : {A : Type 0} → Bool → A → List A → List A
 keep_if b x xs = cond b (x ∷ xs) xs
 
@@ -94,14 +99,17 @@ can_mark t n [] = false
 can_mark t n (Open job m ∷ rows) = (nat_eq n t && not m) || can_mark t (n + 1) rows
 can_mark t n (Done job r ∷ rows) = can_mark t (n + 1) rows
 
+-- whether t is another job that can be canceled
 abbrev pub can_mark_other : Place → ℕ → Bool
 can_mark_other p t = can_mark t 0 p.before || can_mark t (length p.before + 1) p.after
 
+-- the rows, numbered from n, with job t marked where it is open
 abbrev pub mark : ℕ → ℕ → List Row → List Row
 mark t n [] = []
 mark t n (Open job m ∷ rows) = Open job (m || nat_eq n t) ∷ mark t (n + 1) rows
 mark t n (Done job r ∷ rows) = Done job r ∷ mark t (n + 1) rows
 
+-- the same, where an answer marks a number
 abbrev pub mark_if : Option ℕ → List Row → List Row
 mark_if None rows = rows
 mark_if (Some t) rows = mark t 0 rows
@@ -110,29 +118,36 @@ mark_if (Some t) rows = mark t 0 rows
 abbrev pub settle : Files → Place → FileAnswer
 settle files p = if p.marked || severed false p.before then canceled files p.job.buf else step files (can_mark_other p) p.job.op p.job.buf
 
+-- what an answer leaves of a job
 abbrev pub outcome_of : FileAnswer → Result
 outcome_of a = record { result = a.result; buf = a.buf }
 
+-- the state once the job at a place has this answer
 abbrev pub settled : State → Place → FileAnswer → State
 settled s p a = record { files = a.world; rows = mark_if a.marks (p.before ++ Done p.job (outcome_of a) ∷ p.after); rest = s.rest }
 
+-- a post of this result, where the job at the place may settle and its settling gives the result
 abbrev pub post_at : State → ℤ → Option Place → Option State
 post_at s r None = None
 post_at s r (Some p) = if may p.before p.job && int_eq (settle s.files p).result r then Some (settled s p (settle s.files p)) else None
 
+-- a take of job j, where it is the next of those not taken
 abbrev pub take_job : State → ℕ → List Job → Option State
 take_job s j [] = None
 take_job s j (job ∷ rest) = if nat_eq j (length s.rows) then Some (record { files = s.files; rows = s.rows ++ Open job false ∷ []; rest = rest }) else None
 
+-- the state after an event, and none where it can't take place
 abbrev pub replay_event : State → Event → Option State
 replay_event s (Turn p) = Some s
 replay_event s (Take j) = take_job s j s.rest
 replay_event s (Post j r fin) = if fin then post_at s r (place_of [] s.rows j) else None
 
+-- go on where there is a state
 abbrev pub replay_next : List Event → Option State → (List Event → State → Option State) → Option State
 replay_next es None go = None
 replay_next es (Some s) go = go es s
 
+-- the state after these events
 abbrev pub replay_from : List Event → State → Option State
 replay_from [] s = Some s
 replay_from (e ∷ es) s = replay_next es (replay_event s e) (λ _ t. replay_from es t)
@@ -143,9 +158,11 @@ last_unlinked [] = []
 last_unlinked (job ∷ []) = record { op = job.op; buf = job.buf; drain = job.drain; link = Free } ∷ []
 last_unlinked (job ∷ next ∷ jobs) = job ∷ last_unlinked (next ∷ jobs)
 
+-- no job is taken
 abbrev pub first_state : List Job → Files → State
 first_state jobs files = record { files = files; rows = []; rest = last_unlinked jobs }
 
+-- the state that a journal leads to, if it is one of these jobs over these files
 abbrev pub replay : List Job → Files → List Event → Option State
 replay jobs files journal = replay_from journal (first_state jobs files)
 
@@ -154,19 +171,20 @@ pub record IsWhole (s : State) : Type 0 where
   pub taken : s.rest ≡ []
   pub settled : all_done s.rows ≡ true
 
--- each turn began with the ring full or all jobs pushed
+-- Each turn began with the ring full or all jobs pushed: c is the ring's size, n how many jobs there are, and `takes` how many
+-- were taken before.
 abbrev pub IsBusy : ℕ → ℕ → ℕ → List Event → Type 0
 IsBusy c n takes [] = Unit {0}
 IsBusy c n takes (Turn p ∷ es) = ((p ≡ c) ⊎ (takes + p ≡ n)) × IsBusy c n takes es
 IsBusy c n takes (Take j ∷ es) = IsBusy c n (takes + 1) es
 IsBusy c n takes (Post j r fin ∷ es) = IsBusy c n takes es
 
--- the outcomes, in the order of the jobs
-
+-- the outcomes of these rows, in the order of the jobs
 abbrev pub outcomes : List Row → List (Option Result)
 outcomes [] = []
 outcomes (Open job m ∷ rows) = None ∷ outcomes rows
 outcomes (Done job r ∷ rows) = Some r ∷ outcomes rows
 
+-- the outcomes of all jobs, and none for one that isn't taken
 abbrev pub table : State → List (Option Result)
 table s = outcomes s.rows ++ replicate (length s.rest) None

@@ -1,9 +1,11 @@
 -- The schedule over any world: links, drains, choices, marks, severing, and the turn.
-use Rattle.std.specs.Prelude.{◌≡◌, ℕ, ◌/◌, ◌%◌, zero, suc, Bool, true, false, ◌&&◌, ◌||◌, not, if◌then◌else◌, cond, nat_lt, nat_eq, List, [], ◌∷◌, ◌++◌, length, drop, ℤ, Option, Some, None, slice_get}
+-- A partner takes entries, which are then pending in take order. One of those that are ready settles at a time: the machine
+-- answers it, and a completion is posted. An entry behind a linked one waits for it, and is cut (canceled unasked) where the
+-- chain was severed before it; one that a cancel marked is canceled too.
+use Rattle.std.specs.Prelude.{◌≡◌, ℕ, ◌/◌, ◌%◌, zero, suc, Bool, true, false, ◌&&◌, ◌||◌, not, if◌then◌else◌, cond, nat_eq, List, [], ◌∷◌, ◌++◌, length, drop, ℤ, Option, Some, None, slice_get}
 use Rattle.uring_base.specs.declared.buffer.Loan.{Loan}
 use Rattle.uring_base.specs.declared.events.Taken.{Taken}
 use Rattle.uring_base.specs.declared.events.Completion.{Completion}
-use Rattle.uring_base.specs.Loans.{part_of}
 use Rattle.uring_model.specs.declared.pending.Pending.{Pending}
 use Rattle.uring_model.specs.Machine.{Answer}
 use Rattle.uring_model.specs.Jobs.{linked}
@@ -14,14 +16,17 @@ use Rattle.uring_model.specs.Asks.{job_of}
 use Rattle.uring_base.specs.Errnos.{error_result}
 use Rattle.uring_base.specs.declared.errno.TheConstants.{ECANCELED}
 
+-- whether the entry that is taken next is cut, by the state's tail
 abbrev pub cut_of : Option Bool → Bool
 cut_of None = false
 cut_of (Some c) = c
 
+-- the tail behind an entry: none where it isn't linked, else whether the next one is cut
 abbrev pub tail_for : Bool → Bool → Option Bool
 tail_for false c = None
 tail_for true c = Some c
 
+-- one of the pending entries, between those before and behind it
 pub record Cursor : Type 0 where
   pub front : List Pending
   pub item : Pending
@@ -32,6 +37,7 @@ abbrev pub held : Bool → List Pending → Bool
 held w [] = w
 held w (i ∷ is) = held (linked (job_of i.taken).link) is
 
+-- none of these is drained
 abbrev pub no_drain : List Pending → Bool
 no_drain [] = true
 no_drain (i ∷ is) = not (job_of i.taken).drain && no_drain is
@@ -40,6 +46,7 @@ abbrev pub is_nil : List Pending → Bool
 is_nil [] = true
 is_nil (i ∷ is) = false
 
+-- whether an entry with this number is among these, and unmarked
 abbrev pub has_unmarked : ℕ → List Pending → Bool
 has_unmarked t [] = false
 has_unmarked t (i ∷ is) = (nat_eq i.taken.entry.user_data t && not i.marked) || has_unmarked t is
@@ -49,6 +56,7 @@ abbrev pub mark_first : ℕ → List Pending → List Pending
 mark_first t [] = []
 mark_first t (i ∷ is) = cond (nat_eq i.taken.entry.user_data t && not i.marked) (record { taken = i.taken; cut = i.cut; marked = true } ∷ is) (i ∷ mark_first t is)
 
+-- the same, where an answer marks a number
 abbrev pub mark_first_if : Option ℕ → List Pending → List Pending
 mark_first_if None is = is
 mark_first_if (Some t) is = mark_first t is
@@ -59,15 +67,18 @@ pass false s is = is
 pass true s [] = []
 pass true s (i ∷ is) = record { taken = i.taken; cut = s; marked = i.marked } ∷ is
 
+-- where nothing is behind it, the tail keeps what the entry taken next is told
 abbrev pub pass_end : Bool → Bool → List Pending → Option Bool → Option Bool
 pass_end false s is end = end
 pass_end true s [] end = Some s
 pass_end true s (i ∷ is) end = end
 
+-- which numbers a cancel finds: those of the other pending entries that are unmarked
 abbrev pub other_in : Cursor → ℕ → Bool
 other_in c t = has_unmarked t c.front || has_unmarked t c.back
 
--- `can` says which entries can be answered. It comes first, so that it drops out where it always holds.
+-- Whether an entry with these before it is ready: it can be answered (`can`) or is canceled, waits for no linked one, has no
+-- drained one before it, and none at all if it is drained. `can` comes first, so that it drops out where it always holds.
 abbrev pub is_ready : (Taken → Bool) → List Pending → Pending → Bool
 is_ready can front i = (can i.taken || i.marked || i.cut) && (not (held false front) && no_drain front && (not (job_of i.taken).drain || is_nil front))
 
@@ -80,33 +91,45 @@ ready_cursors can front (i ∷ is) = keep_if (is_ready can front i) (record { fr
 abbrev pub named : ℕ → List Cursor → Option Cursor
 named c ready = slice_get ready ((c / 2) % length ready)
 
+-- What a partner works on (its world) and how it answers there.
 pub record Machine (W : Type 0) : Type 0 where
+  -- whether the entry can be answered now, or has to wait
   pub can_answer : W → Taken → Bool
+  -- the answer to an entry, where a cancel finds these numbers
   pub answer : W → (ℕ → Bool) → Taken → Answer W
+  -- the loan that comes back with this result and these bytes
   pub back : Taken → ℤ → List ℕ → Option Loan
 
+-- A partner's state: its world, what is taken and unsettled, and the choices left.
 pub record State (W : Type 0) : Type 0 where
   pub world : W
   pub pending : List Pending
+  -- none where the entry taken last, if any, isn't linked; else whether the next one is cut
   pub tail : Option Bool
   pub choices : List ℕ
 
+-- nothing is pending, and no chain is open
 pub record IsIdle {W : Type 0} (a : State W) : Type 0 where
   pub pending : a.pending ≡ []
   pub tail : a.tail ≡ None
 
+-- the idle state of this world and these choices
 abbrev pub idle : {W : Type 0} → W → List ℕ → State W
-idle files choices = record { world = files; pending = []; tail = None; choices = choices }
+idle world choices = record { world = world; pending = []; tail = None; choices = choices }
 
+-- what a canceled entry with this buffer answers
 abbrev pub canceled_in : {W : Type 0} → W → List ℕ → Answer W
 canceled_in w buf = record { result = error_result ECANCELED; buf = buf; world = w; marks = None }
 
+-- the state once an entry is taken
 abbrev pub after_take : {W : Type 0} → State W → Taken → State W
 after_take a t = record { world = a.world; pending = a.pending ++ record { taken = t; cut = cut_of a.tail; marked = false } ∷ []; tail = tail_for (linked (job_of t).link) false; choices = a.choices }
 
+-- whether this answer cuts the entry behind
 abbrev pub cut_after : {W : Type 0} → Cursor → Answer W → Bool
 cut_after c a = cuts c.item.cut (job_of c.item.taken) a.result
 
+-- the state once the entry at a cursor has this answer: it is gone, the one behind it is told, and one may be marked
 abbrev pub after_settle : {W : Type 0} → State W → Cursor → Answer W → State W
 after_settle s c a =
     let job = job_of c.item.taken in
@@ -118,56 +141,72 @@ after_settle s c a =
       choices = drop 1 s.choices;
     }
 
+-- what a turn posts, and the state that it leaves
 pub record Outturn (W : Type 0) : Type 0 where
   pub posts : List Completion
   pub state : State W
 
+-- this completion, and then what a turn does
 abbrev pub posting : {W : Type 0} → Completion → Outturn W → Outturn W
 posting c t = record { posts = c ∷ t.posts; state = t.state }
 
+-- no post, in this state
 abbrev pub stays : {W : Type 0} → State W → Outturn W
 stays a = record { posts = []; state = a }
 
+-- the state once these are taken, in order
 abbrev pub take_all : {W : Type 0} → State W → List Taken → State W
 take_all a [] = a
 take_all a (t ∷ ts) = take_all (after_take a t) ts
 
+-- what a machine makes of it
 module _ {W : Type 0} (m : Machine W) where
+  -- the ready entries of a state
   abbrev pub cursors : State W → List Cursor
   cursors a = ready_cursors (m.can_answer a.world) [] a.pending
 
+  -- the answer to the entry at a cursor, which isn't asked of the machine where it is marked or cut
   abbrev pub answer_to : W → Cursor → Answer W
   answer_to w c = if c.item.marked || c.item.cut then canceled_in w (job_of c.item.taken).buf else m.answer w (other_in c) c.item.taken
 
+  -- the completion of an entry that is answered so
   abbrev pub completion_of : Taken → Answer W → Completion
   completion_of t a = record { user_data = t.entry.user_data; result = a.result; flags = 0; big = 0 ∷ 0 ∷ []; loan = m.back t a.result a.buf }
 
+  -- this completion is of the ready entry that the next choice names
   pub record Settles (a : State W) (c : Completion) : Type 0 where
     pub cursor : Cursor
     pub chosen : named (choice a.choices) (cursors a) ≡ Some cursor
     pub completion : c ≡ completion_of cursor.item.taken (answer_to a.world cursor)
 
+  -- the state once the entry at a cursor is settled
   abbrev pub settled_by : State W → Cursor → State W
   settled_by a c = after_settle a c (answer_to a.world c)
 
+  -- These moves lead from a to b. A post with an even choice ends its turn; `over` says that the turn is over, so that the
+  -- next move is a turn.
   abbrev pub Steps : Bool → State W → List Move → State W → Type 0
   Steps over a [] b = b ≡ a
   Steps over a (Turned p ∷ ms) b = Steps false a ms b
   Steps over a (Took t ∷ ms) b = (over ≡ false) × Steps false (after_take a t) ms b
-  Steps over a (Posted c ∷ ms) b = (over ≡ false) × (s : Settles a c) × Steps (stops (choice a.choices)) (after_settle a s.cursor (answer_to a.world s.cursor)) ms b
+  Steps over a (Posted c ∷ ms) b = (over ≡ false) × (s : Settles a c) × Steps (stops (choice a.choices)) (settled_by a s.cursor) ms b
 
+  -- The moves of whole calls lead from the one state to the other, where it is told. Each call begins with a turn.
   abbrev pub IsServed : Option (State W) → List Move → Option (State W) → Type 0
   IsServed None ms after = after ≡ None
   IsServed (Some a) ms None = ¬ (Unit {0})
   IsServed (Some a) ms (Some b) = Steps true a ms b
 
+  -- the named entry settles, and `go` does the rest unless the choice ends the turn
   abbrev pub settle_then : State W → (State W → Outturn W) → Option Cursor → Outturn W
   settle_then a go None = stays a
   settle_then a go (Some c) = posting (completion_of c.item.taken (answer_to a.world c)) (if stops (choice a.choices) then stays (settled_by a c) else go (settled_by a c))
 
+  -- settlings one after another, while there is room and an entry is ready
   abbrev pub settle_turn : ℕ → State W → Outturn W
   settle_turn zero a = stays a
   settle_turn (suc room) a = settle_then a (settle_turn room) (named (choice a.choices) (cursors a))
 
+  -- a whole turn: these are taken, and what is ready settles within the room
   abbrev pub turn : List Taken → ℕ → State W → Outturn W
   turn ts room a = settle_turn room (take_all a ts)

@@ -12,9 +12,11 @@ pub record Seen : Type 0 where
   pub started : ℕ
   pub ended : List ℕ
 
+-- what is known before the first event
 abbrev pub nothing_seen : Seen
 nothing_seen = record { taken = 0; started = 0; ended = [] }
 
+-- a loan came, and with another number
 abbrev pub has_other_number : ℕ → Option Loan → Bool
 has_other_number job None = false
 has_other_number job (Some loan) = not (nat_eq loan.number job)

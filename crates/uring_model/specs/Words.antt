@@ -10,10 +10,12 @@ pub record MaySettle (before : List Row) (job : Job) : Type 0 where
   pub drained : (i : ℕ) (k : Job) (m : Bool) → slice_get before i ≡ Some (Open k m) → k.drain ≡ false
   pub alone : job.drain ≡ true → (i : ℕ) (k : Job) (m : Bool) → slice_get before i ≡ Some (Open k m) → ⊥
 
+-- a row's job
 abbrev pub job_in : Row → Job
 job_in (Open job m) = job
 job_in (Done job r) = job
 
+-- the next job hangs on this row's
 abbrev pub IsLinkedRow : Row → Type 0
 IsLinkedRow row = linked (job_in row).link ≡ true
 
@@ -47,7 +49,7 @@ pub record MarksJob (t : ℕ) (rows after : List Row) : Type 0 where
   pub others : (k : ℕ) → k ≢ t → slice_get after k ≡ slice_get rows k
   pub count : length after ≡ length rows
 
--- laws
+-- laws: each recursion holds exactly where its words do
 
 abbrev pub MayInWords : Type 0
 MayInWords = (before : List Row) (job : Job) → (may before job ≡ true) ↔ MaySettle before job

@@ -1,5 +1,10 @@
 //! Jobs and what comes of them.
 
+ghost use Rattle.std.specs.Prelude.{◌≡◌};
+
+use std::alloc::AllocError;
+use std::io;
+use thiserror::Error;
 use uring_base::{Buf, Event};
 
 /// Whether the next job hangs on this one. A soft link is cut where this job fails, a hard one
@@ -46,17 +51,51 @@ pub struct Report {
 }
 
 /// Why a run of jobs has no report.
-#[derive(Clone, Copy, PartialEq, Eq, Debug)]
+#[derive(Clone, Copy, PartialEq, Eq, Debug, Error)]
 pub enum RunFault {
     /// The ring sizes aren't valid.
+    #[error("bad ring size")]
     BadSize,
     /// This is the first job that isn't valid.
+    #[error("bad job {0}")]
     BadJob(u64),
-    /// The partner posted what this number wasn't due.
+    /// The partner posted what this number wasn't due: its job wasn't started or has ended, or
+    /// the loan isn't its own.
+    #[error("partner posted for job {0} what was not due")]
     Stranger(u64),
     /// Too many turns passed without a final post.
+    #[error("stalled")]
     Stalled,
     /// The partner failed, which its count of faults shows.
+    #[error("partner fault")]
     PartnerFault,
+    #[error("no memory")]
     NoMemory,
+}
+
+impl From<AllocError> for RunFault {
+    ghost use Rattle.uring_model.specs.declared.jobs.RunFault.TheVariants.{NoMemory};
+
+    ghost from_gives = { λ _ fault. fault ≡ NoMemory };
+
+    fn from(_error: AllocError) -> RunFault {
+        RunFault::NoMemory
+    }
+}
+
+impl From<RunFault> for io::Error {
+    ghost use Rattle.uring_model.specs.Faults.{HasKindOf};
+
+    ghost from_gives = { HasKindOf };
+
+    fn from(fault: RunFault) -> io::Error {
+        let kind = match fault {
+            RunFault::BadSize | RunFault::BadJob(_) => io::ErrorKind::InvalidInput,
+            RunFault::Stranger(_) | RunFault::Stalled | RunFault::PartnerFault => {
+                io::ErrorKind::Other
+            }
+            RunFault::NoMemory => io::ErrorKind::OutOfMemory,
+        };
+        io::Error::from(kind)
+    }
 }

@@ -1,7 +1,8 @@
 //! Laws of the definitions, each the contract of a function that does nothing.
 
 ghost use Rattle.uring_model.specs.Explained.{MovesAreExplained, CallsAreExplained, IdleCallsAreMoves, IdlePartnersAreExplained};
-ghost use Rattle.uring_model.specs.Progress.{LowestMaySettle, FrontIsReady, TurnsAreMoves, TurnsPost, PostsFitRoom, PostingTurns, PostingTurnsJoin, NoneIsLost, TurnsAreFew};
+ghost use Rattle.uring_model.specs.Partner.{file_machine};
+ghost use Rattle.uring_model.specs.Progress.{LowestMaySettle, AlwaysAnswers, FrontIsReady, TurnsAreMoves, ReadySettles, TurnsPost, PostsFitRoom, PostingTurns, PostingTurnsJoin, NoneIsLost, TurnsAreFew};
 ghost use Rattle.uring_model.specs.Ends.{SetWhereWhole, WholeWhereSet, WholeByCount, WholeAtEnd, IdleWhereWhole};
 ghost use Rattle.uring_model.specs.Honest.{NoPostIsStrange, PostsAnswer};
 ghost use Rattle.uring_model.specs.Joins.{MovesJoin, NoMoveStays, TurnsPostTheirs};
@@ -16,25 +17,28 @@ pub fn partner_replays()
     ensures as_moves { IdleCallsAreMoves }
 {}
 
-/// The lowest open job may always settle, and the entry in front is always ready.
+/// The lowest open job may always settle. The files can answer whatever is asked, so the entry in
+/// front is always ready.
 pub fn lowest_may_settle()
     ensures job { LowestMaySettle }
-    ensures entry { FrontIsReady }
+    ensures answers { AlwaysAnswers file_machine }
+    ensures entry { FrontIsReady file_machine }
 {}
 
 /// The moves of a turn lead on from any state; it posts where it can, within its room.
 pub fn turns_are_moves()
-    ensures moves { TurnsAreMoves }
-    ensures posts { TurnsPost }
-    ensures room { PostsFitRoom }
+    ensures moves { TurnsAreMoves file_machine }
+    ensures ready { ReadySettles file_machine }
+    ensures posts { TurnsPost file_machine }
+    ensures room { PostsFitRoom file_machine }
 {}
 
 /// Each entry taken is posted or pending, so there are no more turns that post than takes.
 pub fn turns_are_few()
-    ensures kept { NoneIsLost }
+    ensures kept { NoneIsLost file_machine }
     ensures posts { PostingTurns }
     ensures joins { PostingTurnsJoin }
-    ensures few { TurnsAreFew }
+    ensures few { TurnsAreFew file_machine }
 {}
 
 /// A replay has every outcome exactly where it is whole. It is whole where all entries were

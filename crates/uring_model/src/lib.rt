@@ -1,5 +1,12 @@
-//! What jobs ask and what a journal of them means: the file machine, the replay, and what a
-//! partner in memory may do.
+//! What jobs ask of files, and what a partner makes of them.
+//!
+//! - Jobs, their outcomes and why a run has none (`jobs`); the files (`files`) and one operation on
+//!   them (`perform`).
+//! - What an entry of a ring asks (`operation_of`), and an entry that waits (`Pending`).
+//! - The plain replay of a journal, job by job (`replay`).
+//! - In specs/: the schedule that a partner keeps over any world (links, drains, choices, cancels,
+//!   turns), the file machine as its first instance, when another machine goes as the files do, and
+//!   what a journal means. `laws` has a function for each law.
 #![tactic(auto)]
 
 mod files;

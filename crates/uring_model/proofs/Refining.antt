@@ -1,8 +1,7 @@
 -- A machine that refines another goes, over plain states, as the other does in the view.
-use Rattle.std.proofs.Common.{◌≡◌, ℕ, zero, suc, Bool, true, false, ◌&&◌, ◌||◌, not, cond, nat_eq, List, [], ◌∷◌, ◌++◌, length, map, drop, Option, Some, None, slice_get, ℤ, refl, ap, sym, subst, ◌∙◌, append_assoc}
+use Rattle.std.proofs.Common.{◌≡◌, ℕ, zero, suc, Bool, true, false, ◌&&◌, ◌||◌, not, cond, nat_eq, List, [], ◌∷◌, ◌++◌, length, drop, Option, Some, None, ℤ, refl, ap, sym, subst, ◌∙◌}
 use Rattle.std.specs.Prelude.{◌/◌, ◌%◌, if◌then◌else◌}
 use Rattle.std.specs.List.{AllByRecursion}
-use Rattle.std.proofs.lemmas.Option.{same_Some}
 use Rattle.uring_base.specs.declared.events.Taken.{Taken}
 use Rattle.uring_base.specs.declared.events.Completion.{Completion}
 use Rattle.uring_base.specs.declared.buffer.Loan.{Loan}
@@ -17,7 +16,9 @@ use Rattle.uring_model.specs.Refines.{Agrees, Refines, IsPlainState, WorldLaws}
 use Rattle.uring_model.specs.Partner.{file_machine}
 use Rattle.uring_model.specs.Machine.{Files}
 use Rattle.uring_model.specs.Asks.{IsJobEntry}
-use Rattle.uring_model.proofs.WorldJoins.{IsServed-append, IsServed-none}
+use Rattle.uring_model.proofs.Joins.{calls_join, no_call_stays}
+use Rattle.uring_model.proofs.Progress.{cursor_split, none_is_lost}
+use Rattle.uring_model.proofs.Whole.{turns_are_moves, posts_fit_room, ready_settles, turns_are_few}
 use Rattle.uring_model.specs.Schedule.{Cursor, Machine, State, cut_of, held, no_drain, is_nil, other_in, mark_first, mark_first_if, pass, pass_end, named, canceled_in, cut_after, after_take, take_all, after_settle, completion_of, Outturn, posting, stays, is_ready, ready_cursors, cursors, answer_to, settled_by, Settles, Steps, settle_then, settle_turn, turn}
 
 keep_same : {A : Type 0} (b d : Bool) (x : A) (xs ys : List A) → b ≡ d → xs ≡ ys → keep_if b x xs ≡ keep_if d x ys
@@ -52,17 +53,6 @@ all_settled : {W : Type 0} (P : Taken → Type 0) (a : State W) (c : Cursor) (y 
 all_settled P a c y h k =
     all_marked P y.marks (c.front ++ pass (linked (job_of c.item.taken).link) (cut_after c y) c.back)
     (all-append P c.front (pass (linked (job_of c.item.taken).link) (cut_after c y) c.back) h (all_passed P (linked (job_of c.item.taken).link) (cut_after c y) c.back k))
-
-kept : {A : Type 0} (b : Bool) (x : A) (xs : List A) (k : ℕ) (c : A) (P : A → Type 0) → slice_get (keep_if b x xs) k ≡ Some c → P x → ((n : ℕ) → slice_get xs n ≡ Some c → P c) → P c
-kept true x xs zero c P e p f = subst P (same_Some x c e) p
-kept true x xs (suc k) c P e p f = f k e
-kept false x xs k c P e p f = f k e
-
-split_of : (can : Taken → Bool) (front is : List Pending) (k : ℕ) (c : Cursor) → slice_get (ready_cursors can front is) k ≡ Some c → c.front ++ c.item ∷ c.back ≡ front ++ is
-split_of can front [] k c e = absurd (cc)
-split_of can front (i ∷ is) k c e =
-    kept (is_ready can front i) (record { front = front; item = i; back = is }) (ready_cursors can (front ++ i ∷ []) is) k c (λ x. x.front ++ x.item ∷ x.back ≡ front ++ i ∷ is) e refl
-    (λ n q. split_of can (front ++ i ∷ []) is n c q ∙ append_assoc front (i ∷ []) is)
 
 post_same : (t : Taken) (r s : ℤ) (f g : ℤ → List ℕ → Option Loan) (x y : List ℕ) → r ≡ s → ((q : ℤ) (z : List ℕ) → f q z ≡ g q z) → x ≡ y
     → ◌≡◌ {A = Completion} (record { user_data = t.entry.user_data; result = r; flags = 0; big = 0 ∷ 0 ∷ []; loan = f r x }) (record { user_data = t.entry.user_data; result = s; flags = 0; big = 0 ∷ 0 ∷ []; loan = g s y })
@@ -123,7 +113,7 @@ module _ {W V : Type 0} (m : Machine W) (n : Machine V) (view : W → V) (Plain 
   -- the entry that a choice names is one that may be asked, and what is left is plain
   named_fine : (a : State W) (c : Cursor) → Good a → named (choice a.choices) (cursors m a) ≡ Some c → Allowed c.item.taken × Good (settled_by m a c)
   named_fine a c f e =
-      let whole = split_of (m.can_answer a.world) [] a.pending ((choice a.choices / 2) % length (cursors m a)) c e in
+      let whole = cursor_split (m.can_answer a.world) [] a.pending ((choice a.choices / 2) % length (cursors m a)) c e in
       let parts = all_split Allowed c.front (c.item ∷ c.back) (subst Each (sym whole) f.pending) in
       (parts.1.0, record { world = plain_either a.world c (c.item.marked || c.item.cut) f.world parts.1.0; pending = all_settled Allowed a c (answer_to m a.world c) parts.0 parts.1.1 })
 
@@ -211,8 +201,13 @@ module _ {W V : Type 0} (m : Machine W) (n : Machine V) (view : W → V) (Plain 
 
 pub world_laws : {W : Type 0} (m : Machine W) (view : W → Files) (Plain : W → Type 0) → Refines m file_machine view Plain IsJobEntry → WorldLaws m view Plain
 world_laws m view Plain r = record {
-  join = IsServed-append m;
-  stay = IsServed-none m;
+  join = calls_join m;
+  stay = no_call_stays m;
+  moves = turns_are_moves m;
+  room = posts_fit_room m;
+  kept = none_is_lost m;
+  few = turns_are_few m;
+  ready = ready_settles m;
   steps_seen = λ over a b ms f q h. steps_seen m file_machine view Plain IsJobEntry r over a b ms f q h;
   turns_seen = λ room ts a f q. let s = turn_seen m file_machine view Plain IsJobEntry r room ts a f q in (s.0, s.1, s.2);
 }

@@ -1,0 +1,21 @@
+-- Why a run of jobs has no report, as an error of the system.
+use Rattle.std.specs.Prelude.{◌≡◌}
+use Rattle.std.specs.IoError.{error_kind}
+use Rattle.std.specs.declared.io.Error.{Error}
+use Rattle.std.specs.declared.io.ErrorKind.{ErrorKind}
+use Rattle.std.specs.declared.io.ErrorKind.TheVariants.{InvalidInput, OutOfMemory, Other}
+use Rattle.uring_model.specs.declared.jobs.RunFault.{RunFault}
+use Rattle.uring_model.specs.declared.jobs.RunFault.TheVariants.{BadSize, BadJob, Stranger, Stalled, PartnerFault, NoMemory}
+
+-- its kind: what the caller gave isn't valid, there is no memory, or the partner failed
+abbrev pub kind_of : RunFault → ErrorKind
+kind_of BadSize = InvalidInput
+kind_of (BadJob job) = InvalidInput
+kind_of (Stranger job) = Other
+kind_of Stalled = Other
+kind_of PartnerFault = Other
+kind_of NoMemory = OutOfMemory
+
+-- the error of the system has its kind
+abbrev pub HasKindOf : RunFault → Error → Type 0
+HasKindOf fault error = error_kind error ≡ kind_of fault
