@@ -9,9 +9,11 @@ pub record SourceState : Type 0 where
   pub calls : ℕ
   pub faults : ℕ
 
--- a sink in memory: the bytes taken, the most that one call takes, the calls that fail, and how many calls and faults there were
+-- a sink in memory: the bytes taken, how many more it has memory for, the most that one call takes, the calls that fail,
+-- and how many calls and faults there were
 pub record SinkState : Type 0 where
   pub written : List ℕ
+  pub room : ℕ
   pub piece : ℕ
   pub fails : List ℕ
   pub calls : ℕ

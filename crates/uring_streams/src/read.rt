@@ -3,22 +3,29 @@
 ghost use Rattle.std.specs.Prelude.{◌≡◌, ◌≤◌, IfOk, IfErr};
 ghost use Rattle.uring_streams.specs.Inputs.{GaveFront, IsRefusedFor, IsWholeInput};
 ghost use Rattle.uring_streams.specs.declared.read.InputFault.TheVariants.{NoMemory, ReadFault};
+ghost use Rattle.uring_streams.specs.Told.{kind_of};
+ghost use Rattle.std.specs.IoError.{error_kind};
 
 use crate::traits::{Failed, Source};
 use std::alloc::{AllocError, Global};
+use std::io::{self, ErrorKind};
+use thiserror::Error;
 use uring_base::Buf;
 
 /// The longest input that `read_all` reads, in bytes.
 pub const INPUT_LIMIT: usize = 16_777_216;
 
 /// Why an input wasn't read.
-#[derive(Clone, Copy, Debug, PartialEq, Eq)]
+#[derive(Clone, Copy, Debug, PartialEq, Eq, Error)]
 pub enum InputFault {
     /// The source failed.
+    #[error("read fault")]
     ReadFault,
     /// The input is longer than `INPUT_LIMIT`.
+    #[error("too long")]
     TooLong,
     /// There was no memory to hold it.
+    #[error("no memory")]
     NoMemory,
 }
 
@@ -35,6 +42,18 @@ impl From<Failed> for InputFault {
 
     fn from(_e: Failed) -> InputFault {
         InputFault::ReadFault
+    }
+}
+
+impl From<InputFault> for io::Error {
+    ghost from_gives = { λ fault e. error_kind e ≡ kind_of fault };
+
+    fn from(fault: InputFault) -> io::Error {
+        io::Error::from(match fault {
+            InputFault::ReadFault => ErrorKind::Other,
+            InputFault::TooLong => ErrorKind::FileTooLarge,
+            InputFault::NoMemory => ErrorKind::OutOfMemory,
+        })
     }
 }
 

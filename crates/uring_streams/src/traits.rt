@@ -1,14 +1,28 @@
 //! What gives bytes and what takes them.
 
-ghost use Rattle.std.specs.Prelude.{◌<◌, ℕ, List, Option, IfOk, length, true};
+ghost use Rattle.std.specs.Prelude.{◌≡◌, ◌<◌, ℕ, List, Option, IfOk, length, true};
 ghost use Rattle.std.specs.Io.{ReadsAtMost, WritesAtMost};
 ghost use Rattle.std.specs.Io.KnownBytes.{ReadConsumes, WriteAppends};
+ghost use Rattle.std.specs.IoError.{error_kind};
+ghost use Rattle.std.specs.declared.io.ErrorKind.TheVariants.{Other};
 ghost use Rattle.uring_base.specs.Causes.{HasCause};
 ghost use Rattle.uring_streams.specs.Bytes.{CountsBytes};
 
+use std::io;
+use thiserror::Error;
+
 /// The source or the sink failed, and did nothing.
-#[derive(Clone, Copy, Debug, PartialEq, Eq)]
+#[derive(Clone, Copy, Debug, PartialEq, Eq, Error)]
+#[error("stream failed")]
 pub struct Failed;
+
+impl From<Failed> for io::Error {
+    ghost from_gives = { λ _ e. error_kind e ≡ Other };
+
+    fn from(_failed: Failed) -> io::Error {
+        io::Error::from(io::ErrorKind::Other)
+    }
+}
 
 /// What gives bytes.
 pub trait Source {
