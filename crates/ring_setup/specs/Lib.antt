@@ -1,1 +1,3 @@
+pub mod Features
+pub mod RingFlags
 pub mod Setup

@@ -2,6 +2,12 @@
 
 ghost use Rattle.std.specs.Prelude.{◌≡◌};
 ghost use Rattle.ring_setup.specs.Setup.{told_entries, told_completions, is_setup, is_feature};
+ghost use Rattle.ring_setup.specs.declared.feature_flags.TheConstants.FeatureFlags.{SINGLE_MMAP, NODROP, SUBMIT_STABLE, RW_CUR_POS, CUR_PERSONALITY, FAST_POLL, POLL_32BITS, SQPOLL_NONFIXED, EXT_ARG, NATIVE_WORKERS, RSRC_TAGS, CQE_SKIP, LINKED_FILE, REG_REG_RING, RECVSEND_BUNDLE, MIN_TIMEOUT, NO_IOWAIT};
+ghost use Rattle.ring_setup.specs.declared.setup_flags.TheConstants.SetupFlags.{IOPOLL, SQPOLL, SINGLE_ISSUER};
+
+use crate::feature_flags::FeatureFlags;
+use crate::setup_flags::SetupFlags;
+use bitflags::Flags as _;
 
 /// What a ring was made with.
 #[derive(Clone, Copy, PartialEq, Eq, Debug)]
@@ -14,144 +20,144 @@ pub struct Parameters {
 }
 
 impl Parameters {
-    /// Whether a thread of the partner's own takes the entries (setup bit 1).
+    /// Whether a thread of the partner's own takes the entries.
     pub fn is_setup_sqpoll(&self) -> bool
-        ensures { result ≡ is_setup self.now 2 }
+        ensures { result ≡ is_setup self.now SQPOLL }
     {
-        self.setup / 2 % 2 == 1
+        SetupFlags::from_bits_retain(self.setup).contains(SetupFlags::SQPOLL)
     }
 
-    /// Whether completions are polled for (setup bit 0).
+    /// Whether completions are polled for.
     pub fn is_setup_iopoll(&self) -> bool
-        ensures { result ≡ is_setup self.now 1 }
+        ensures { result ≡ is_setup self.now IOPOLL }
     {
-        self.setup % 2 == 1
+        SetupFlags::from_bits_retain(self.setup).contains(SetupFlags::IOPOLL)
     }
 
-    /// Whether one thread alone submits (setup bit 12).
+    /// Whether one thread alone submits.
     pub fn is_setup_single_issuer(&self) -> bool
-        ensures { result ≡ is_setup self.now 4096 }
+        ensures { result ≡ is_setup self.now SINGLE_ISSUER }
     {
-        self.setup / 4096 % 2 == 1
+        SetupFlags::from_bits_retain(self.setup).contains(SetupFlags::SINGLE_ISSUER)
     }
 
-    /// Whether both rings lie in one mapping (feature bit 0).
+    /// Whether both rings lie in one mapping.
     pub fn is_feature_single_mmap(&self) -> bool
-        ensures { result ≡ is_feature self.now 1 }
+        ensures { result ≡ is_feature self.now SINGLE_MMAP }
     {
-        self.features % 2 == 1
+        FeatureFlags::from_bits_retain(self.features).contains(FeatureFlags::SINGLE_MMAP)
     }
 
-    /// Whether no completion is lost where the completion ring is full (feature bit 1).
+    /// Whether no completion is lost where the completion ring is full.
     pub fn is_feature_nodrop(&self) -> bool
-        ensures { result ≡ is_feature self.now 2 }
+        ensures { result ≡ is_feature self.now NODROP }
     {
-        self.features / 2 % 2 == 1
+        FeatureFlags::from_bits_retain(self.features).contains(FeatureFlags::NODROP)
     }
 
-    /// Whether what an entry points to may change once it is taken (feature bit 2).
+    /// Whether what an entry points to may change once it is taken.
     pub fn is_feature_submit_stable(&self) -> bool
-        ensures { result ≡ is_feature self.now 4 }
+        ensures { result ≡ is_feature self.now SUBMIT_STABLE }
     {
-        self.features / 4 % 2 == 1
+        FeatureFlags::from_bits_retain(self.features).contains(FeatureFlags::SUBMIT_STABLE)
     }
 
-    /// Whether offset -1 means the current position of a file (feature bit 3).
+    /// Whether offset -1 means the current position of a file.
     pub fn is_feature_rw_cur_pos(&self) -> bool
-        ensures { result ≡ is_feature self.now 8 }
+        ensures { result ≡ is_feature self.now RW_CUR_POS }
     {
-        self.features / 8 % 2 == 1
+        FeatureFlags::from_bits_retain(self.features).contains(FeatureFlags::RW_CUR_POS)
     }
 
-    /// Whether an entry runs with the rights of the thread that submits it (feature bit 4).
+    /// Whether an entry runs with the rights of the thread that submits it.
     pub fn is_feature_cur_personality(&self) -> bool
-        ensures { result ≡ is_feature self.now 16 }
+        ensures { result ≡ is_feature self.now CUR_PERSONALITY }
     {
-        self.features / 16 % 2 == 1
+        FeatureFlags::from_bits_retain(self.features).contains(FeatureFlags::CUR_PERSONALITY)
     }
 
-    /// Whether the partner waits for readiness by itself (feature bit 5).
+    /// Whether the partner waits for readiness by itself.
     pub fn is_feature_fast_poll(&self) -> bool
-        ensures { result ≡ is_feature self.now 32 }
+        ensures { result ≡ is_feature self.now FAST_POLL }
     {
-        self.features / 32 % 2 == 1
+        FeatureFlags::from_bits_retain(self.features).contains(FeatureFlags::FAST_POLL)
     }
 
-    /// Whether a poll takes 32 bits of events (feature bit 6).
+    /// Whether a poll takes 32 bits of events.
     pub fn is_feature_poll_32bits(&self) -> bool
-        ensures { result ≡ is_feature self.now 64 }
+        ensures { result ≡ is_feature self.now POLL_32BITS }
     {
-        self.features / 64 % 2 == 1
+        FeatureFlags::from_bits_retain(self.features).contains(FeatureFlags::POLL_32BITS)
     }
 
-    /// Whether a thread that takes the entries serves files that aren't registered (feature bit 7).
+    /// Whether a thread that takes the entries serves files that aren't registered.
     pub fn is_feature_sqpoll_nonfixed(&self) -> bool
-        ensures { result ≡ is_feature self.now 128 }
+        ensures { result ≡ is_feature self.now SQPOLL_NONFIXED }
     {
-        self.features / 128 % 2 == 1
+        FeatureFlags::from_bits_retain(self.features).contains(FeatureFlags::SQPOLL_NONFIXED)
     }
 
-    /// Whether an enter may have a timeout and a signal mask (feature bit 8).
+    /// Whether an enter may have a timeout and a signal mask.
     pub fn is_feature_ext_arg(&self) -> bool
-        ensures { result ≡ is_feature self.now 256 }
+        ensures { result ≡ is_feature self.now EXT_ARG }
     {
-        self.features / 256 % 2 == 1
+        FeatureFlags::from_bits_retain(self.features).contains(FeatureFlags::EXT_ARG)
     }
 
-    /// Whether the partner's workers are threads of the process (feature bit 9).
+    /// Whether the partner's workers are threads of the process.
     pub fn is_feature_native_workers(&self) -> bool
-        ensures { result ≡ is_feature self.now 512 }
+        ensures { result ≡ is_feature self.now NATIVE_WORKERS }
     {
-        self.features / 512 % 2 == 1
+        FeatureFlags::from_bits_retain(self.features).contains(FeatureFlags::NATIVE_WORKERS)
     }
 
-    /// Whether registered resources may have tags (feature bit 10).
+    /// Whether registered resources may have tags.
     pub fn is_feature_resource_tagging(&self) -> bool
-        ensures { result ≡ is_feature self.now 1024 }
+        ensures { result ≡ is_feature self.now RSRC_TAGS }
     {
-        self.features / 1024 % 2 == 1
+        FeatureFlags::from_bits_retain(self.features).contains(FeatureFlags::RSRC_TAGS)
     }
 
-    /// Whether an entry may ask for no completion at success (feature bit 11).
+    /// Whether an entry may ask for no completion at success.
     pub fn is_feature_skip_cqe_on_success(&self) -> bool
-        ensures { result ≡ is_feature self.now 2048 }
+        ensures { result ≡ is_feature self.now CQE_SKIP }
     {
-        self.features / 2048 % 2 == 1
+        FeatureFlags::from_bits_retain(self.features).contains(FeatureFlags::CQE_SKIP)
     }
 
-    /// Whether the file of an entry is looked up when its turn in a chain comes (feature bit 12).
+    /// Whether the file of an entry is looked up when its turn in a chain comes.
     pub fn is_feature_linked_file(&self) -> bool
-        ensures { result ≡ is_feature self.now 4096 }
+        ensures { result ≡ is_feature self.now LINKED_FILE }
     {
-        self.features / 4096 % 2 == 1
+        FeatureFlags::from_bits_retain(self.features).contains(FeatureFlags::LINKED_FILE)
     }
 
-    /// Whether a ring may be registered by its own registered number (feature bit 13).
+    /// Whether a ring may be registered by its own registered number.
     pub fn is_feature_reg_reg_ring(&self) -> bool
-        ensures { result ≡ is_feature self.now 8192 }
+        ensures { result ≡ is_feature self.now REG_REG_RING }
     {
-        self.features / 8192 % 2 == 1
+        FeatureFlags::from_bits_retain(self.features).contains(FeatureFlags::REG_REG_RING)
     }
 
-    /// Whether receives and sends may be in bundles (feature bit 14).
+    /// Whether receives and sends may be in bundles.
     pub fn is_feature_recvsend_bundle(&self) -> bool
-        ensures { result ≡ is_feature self.now 16384 }
+        ensures { result ≡ is_feature self.now RECVSEND_BUNDLE }
     {
-        self.features / 16384 % 2 == 1
+        FeatureFlags::from_bits_retain(self.features).contains(FeatureFlags::RECVSEND_BUNDLE)
     }
 
-    /// Whether a wait may have a least time (feature bit 15).
+    /// Whether a wait may have a least time.
     pub fn is_feature_min_timeout(&self) -> bool
-        ensures { result ≡ is_feature self.now 32768 }
+        ensures { result ≡ is_feature self.now MIN_TIMEOUT }
     {
-        self.features / 32768 % 2 == 1
+        FeatureFlags::from_bits_retain(self.features).contains(FeatureFlags::MIN_TIMEOUT)
     }
 
-    /// Whether waiting may be left out of the time of input and output (feature bit 17).
+    /// Whether waiting may be left out of the time of input and output.
     pub fn is_feature_no_iowait(&self) -> bool
-        ensures { result ≡ is_feature self.now 131072 }
+        ensures { result ≡ is_feature self.now NO_IOWAIT }
     {
-        self.features / 131072 % 2 == 1
+        FeatureFlags::from_bits_retain(self.features).contains(FeatureFlags::NO_IOWAIT)
     }
 
     /// How many entries fit: a power of two.

@@ -3,24 +3,19 @@
 ghost use Rattle.std.specs.Prelude.{◌≡◌, ◌≤◌, nat_lt, nat_le, ◌&&◌, true, false, IfOk, IfErr};
 ghost use Rattle.uring_base.specs.Sizes.{rounded_up, is_valid_size};
 ghost use Rattle.ring_core.specs.Positions.{is_ring_size};
+ghost use Rattle.uring_base.specs.declared.limits.TheConstants.{MAX_ENTRIES, MAX_COMPLETIONS};
 ghost use Rattle.ring_setup.specs.Setup.{told_entries, told_completions, default_settings, is_buildable, parameters_for, parameters_of_sizes, cut, setup_word};
 
+use crate::feature_flags::FeatureFlags;
 use crate::parameters::Parameters;
+use crate::setup_flags::SetupFlags;
+use bitflags::Flags as _;
 use ring_core::SetupError;
-
-const MAX_ENTRIES: u32 = 32768;
-
-const MAX_COMPLETIONS: u32 = 65536;
-
-/// The setup bit that says that the completion count was given.
-const SETUP_CQSIZE: u32 = 8;
-
-/// Each feature bit that has a name: 0 to 15, and 17.
-const FEATURES: u32 = 0x2_ffff;
+use uring_base::limits::{MAX_COMPLETIONS, MAX_ENTRIES};
 
 /// The least power of two that is at least the count.
 fn rounded_up(count: u32) -> u32
-    requires { count ≤ 65536 }
+    requires { count ≤ MAX_COMPLETIONS }
     ensures { result ≡ rounded_up count }
 {
     count.next_power_of_two()
@@ -35,9 +30,9 @@ fn in_range(count: u32, most: u32) -> bool
 /// What a ring is asked to be.
 #[derive(Clone, Copy, PartialEq, Eq, Debug)]
 pub struct Settings {
-    /// The setup bits, without the one that says that a completion count was given.
+    /// The setup flags, without the one that says that a completion count was given.
     pub setup: u32,
-    /// The feature bits.
+    /// The feature flags.
     pub features: u32,
     /// The completion count, where one was given.
     pub cq_entries: Option<u32>,
@@ -54,14 +49,14 @@ pub struct Settings {
 }
 
 impl Settings {
-    /// Settings of these setup bits: all features that have a name, positions that begin at 0, and
+    /// Settings of these setup flags: all features that have a name, positions that begin at 0, and
     /// nothing else that is asked for.
     pub fn new(setup: u32) -> Settings
         ensures { result ≡ default_settings setup }
     {
         Settings {
             setup,
-            features: FEATURES,
+            features: FeatureFlags::all().bits(),
             cq_entries: None,
             start: 0,
             sq_thread_idle: 0,
@@ -75,7 +70,7 @@ impl Settings {
         ensures { result ≡ setup_word self.now }
     {
         match self.cq_entries {
-            Some(_) => self.setup | SETUP_CQSIZE,
+            Some(_) => self.setup | SetupFlags::CQSIZE.bits(),
             None => self.setup,
         }
     }
@@ -84,7 +79,7 @@ impl Settings {
     fn cut(&self, count: u32, most: u32) -> u32
         ensures { result ≡ cut self.now most count }
     {
-        if self.setup / 16 % 2 == 1 {
+        if SetupFlags::from_bits_retain(self.setup).contains(SetupFlags::CLAMP) {
             count.min(most)
         } else {
             count
@@ -95,7 +90,7 @@ impl Settings {
     /// ring.
     pub fn parameters(&self, entries: u32) -> Result<Parameters, SetupError>
         ensures ok { IfOk result (λ parameters. (is_buildable self.now entries ≡ true) × (parameters ≡ parameters_for self.now entries)) }
-        ensures sizes { IfOk result (λ parameters. (is_ring_size (told_entries parameters) ≡ true) × (is_ring_size (told_completions parameters) ≡ true) × (told_entries parameters ≤ 32768)) }
+        ensures sizes { IfOk result (λ parameters. (is_ring_size (told_entries parameters) ≡ true) × (is_ring_size (told_completions parameters) ≡ true) × (told_entries parameters ≤ MAX_ENTRIES)) }
         ensures err { IfErr result (λ error. (is_buildable self.now entries ≡ false) × (error ≡ SetupError.Invalid)) }
     {
         let entries = self.cut(entries, MAX_ENTRIES);
@@ -111,9 +106,9 @@ impl Settings {
 
     /// The parameters of a ring of these counts, each cut already.
     fn sized(&self, entries: u32, completions: u32) -> Result<Parameters, SetupError>
-        requires { (nat_lt 0 entries && nat_le entries 32768) ≡ true }
+        requires { (nat_lt 0 entries && nat_le entries MAX_ENTRIES) ≡ true }
         ensures ok { IfOk result (λ parameters. (is_valid_size entries completions ≡ true) × (parameters ≡ parameters_of_sizes self.now entries completions)) }
-        ensures sizes { IfOk result (λ parameters. (is_ring_size (told_entries parameters) ≡ true) × (is_ring_size (told_completions parameters) ≡ true) × (told_entries parameters ≤ 32768)) }
+        ensures sizes { IfOk result (λ parameters. (is_ring_size (told_entries parameters) ≡ true) × (is_ring_size (told_completions parameters) ≡ true) × (told_entries parameters ≤ MAX_ENTRIES)) }
         ensures err { IfErr result (λ error. (is_valid_size entries completions ≡ false) × (error ≡ SetupError.Invalid)) }
     {
         if !in_range(completions, MAX_COMPLETIONS) {

@@ -1,5 +1,5 @@
 -- A pair of rings for one thread, by what it holds.
-use Rattle.std.specs.Prelude.{◌≡◌, ℕ, ◌+◌, List, [], length, min}
+use Rattle.std.specs.Prelude.{◌≡◌, ℕ, List, [], length}
 use Rattle.uring_base.specs.declared.events.Taken.{Taken}
 use Rattle.uring_base.specs.declared.events.Completion.{Completion}
 use Rattle.std.specs.Borrow.{Lends, LendsBoth, MutBor, Fml, RattleType}
@@ -31,7 +31,7 @@ abbrev pub lists_of : {S C : Type 0} → IoUring S C → Lists
 lists_of ring = lists_between (entries_in ring) (completions_in ring)
 
 -- the words beside the two rings
-pub record Words : Type 0 where
+pub record RingWords : Type 0 where
   -- the flags that the submission ring shows
   pub flags : ℕ
   -- how many entries couldn't be taken
@@ -41,17 +41,13 @@ pub record Words : Type 0 where
   -- the flags that the user sets beside the completions
   pub completion_flags : ℕ
 
-abbrev pub words_of : {S C : Type 0} → IoUring S C → Words
-words_of ring = record {
+abbrev pub ring_words : {S C : Type 0} → IoUring S C → RingWords
+ring_words ring = record {
   flags = ring.submissions.words.flags;
   dropped = ring.submissions.words.dropped;
   overflow = ring.completions.words.overflow;
   completion_flags = ring.completions.words.flags;
 }
-
--- one more, as far as 32 bits tell
-abbrev pub one_more : ℕ → ℕ
-one_more n = min (n + 1) 4294967295
 
 -- these entries were taken and these completions posted, of which the ring keeps so much
 pub record RingMoves {S C : Type 0} (kept : Completion → Completion) (before : IoUring S C) (ts : List Taken) (cs : List Completion) (after : IoUring S C) : Type 0 where
@@ -62,18 +58,14 @@ pub record RingMoves {S C : Type 0} (kept : Completion → Completion) (before :
   pub room : (entries_in after).spare ≡ (entries_in before).spare
   pub waiting : (completions_in after).waiting ≡ (completions_in before).waiting
   pub parameters : parameters_of after ≡ parameters_of before
-  pub words : words_of after ≡ words_of before
+  pub words : ring_words after ≡ ring_words before
 
 -- the partner changed words alone
 pub record RingMarks {S C : Type 0} (before after : IoUring S C) : Type 0 where
   pub entries : entries_in after ≡ entries_in before
   pub completions : completions_in after ≡ completions_in before
   pub parameters : parameters_of after ≡ parameters_of before
-  pub user : (words_of after).completion_flags ≡ (words_of before).completion_flags
-
--- the counters of what couldn't be taken and posted
-abbrev pub counters_of : Words → ℕ × ℕ
-counters_of words = (words.dropped, words.overflow)
+  pub user : (ring_words after).completion_flags ≡ (ring_words before).completion_flags
 
 -- these entries were offered and these completions reaped
 pub record RingUses {S C : Type 0} (before : IoUring S C) (ts : List Taken) (cs : List Completion) (after : IoUring S C) : Type 0 where
@@ -84,7 +76,7 @@ pub record RingUses {S C : Type 0} (before : IoUring S C) (ts : List Taken) (cs 
   pub ready : (entries_in after).waiting ≡ (entries_in before).waiting
   pub space : (completions_in after).spare ≡ (completions_in before).spare
   pub parameters : parameters_of after ≡ parameters_of before
-  pub words : words_of after ≡ words_of before
+  pub words : ring_words after ≡ ring_words before
 
 -- nothing stands in a pair of rings of these sizes, and its positions are the start
 pub record IsOpened {S C : Type 0} (ring : IoUring S C) (capacity completion_capacity start : ℕ) : Type 0 where
@@ -95,7 +87,7 @@ pub record IsOpened {S C : Type 0} (ring : IoUring S C) (capacity completion_cap
   pub space : (completions_in ring).spare ≡ completion_capacity
   pub offer_place : (entries_in ring).put_place ≡ start
   pub reap_place : (completions_in ring).take_place ≡ start
-  pub words : words_of ring ≡ record { flags = 0; dropped = 0; overflow = 0; completion_flags = 0 }
+  pub words : ring_words ring ≡ record { flags = 0; dropped = 0; overflow = 0; completion_flags = 0 }
 
 -- the words of one of its rings, and of the other
 abbrev pub submission_words_in : {S C : Type 0} → IoUring S C → SubmissionWords

@@ -6,7 +6,7 @@ use Rattle.uring_ring.specs.declared.plain_side.PlainSide.{PlainSide}
 use Rattle.ring_core.specs.Held.{Held}
 use Rattle.uring_ring.specs.Between.{lists_between}
 use Rattle.ring_traits.specs.Lists.{Lists, Moves}
-use Rattle.uring_ring.specs.IoUring.{Words}
+use Rattle.uring_ring.specs.IoUring.{RingWords}
 use Rattle.uring_ring.specs.Queues.{entries_at, completions_at, submission_words_at, completion_words_at}
 
 abbrev pub side_entries : {S C : Type 0} → PlainSide S C → Held Taken
@@ -18,7 +18,7 @@ side_completions side = completions_at side.completions.now
 abbrev pub side_lists : {S C : Type 0} → PlainSide S C → Lists
 side_lists side = lists_between (side_entries side) (side_completions side)
 
-abbrev pub side_words : {S C : Type 0} → PlainSide S C → Words
+abbrev pub side_words : {S C : Type 0} → PlainSide S C → RingWords
 side_words side = record {
   flags = (submission_words_at side.submissions.now).flags;
   dropped = (submission_words_at side.submissions.now).dropped;

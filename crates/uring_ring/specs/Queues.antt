@@ -1,5 +1,7 @@
 -- Queue values, by the rings that they lend.
-use Rattle.std.specs.Prelude.{◌≡◌, ℕ, ℤ, ◌-◌, ◌%◌, ◌<◌, List, [], ◌∷◌, Option, MatchOption, map, take, bit_or}
+use Rattle.std.specs.Prelude.{◌≡◌, ℕ, ℤ, ◌<◌, List, [], ◌∷◌, Option, MatchOption, map, take, bit_or}
+use Rattle.bitflags.specs.Sets.{without}
+use Rattle.ring_setup.specs.declared.ring_flags.TheConstants.CompletionRingFlags.{EVENTFD_DISABLED}
 use Rattle.uring_base.specs.declared.buffer.Loan.{Loan}
 use Rattle.uring_base.specs.declared.events.Taken.{Taken}
 use Rattle.uring_base.specs.declared.events.Completion.{Completion}
@@ -50,9 +52,9 @@ module _ {C : Type 0} (made_of : ℕ → ℤ → ℕ → List ℕ → C) where
     pub gives : MatchOption item (((completions_at old).waiting ≡ 0) × (completions_at new ≡ completions_at old))
         (λ x. (0 < (completions_at old).waiting) × (first_received 1 (completions_at old) ≡ x ∷ []) × (completions_at new ≡ taken_out 1 (completions_at old)))
 
--- the flag of value 1 set, and cleared
-abbrev pub with_flag : CompletionWords → CompletionWords
-with_flag words = record words { flags = bit_or words.flags 1 }
+-- no event is to be sent for a completion, and events are sent again
+abbrev pub without_events : CompletionWords → CompletionWords
+without_events words = record words { flags = bit_or words.flags EVENTFD_DISABLED.0 }
 
-abbrev pub without_flag : CompletionWords → CompletionWords
-without_flag words = record words { flags = words.flags - words.flags % 2 }
+abbrev pub with_events : CompletionWords → CompletionWords
+with_events words = record words { flags = without 32 words.flags EVENTFD_DISABLED.0 }

@@ -2,12 +2,14 @@
 
 ghost use Rattle.std.specs.Prelude.{◌≡◌, ◌↔◌, true, false, bit_or, IfOk, IfErr};
 ghost use Rattle.uring_base.specs.Sizes.{rounded_up};
-ghost use Rattle.ring_setup.specs.Setup.{default_settings, is_buildable, parameters_for, asked_entries, asked_completions, with_bit, with_cqsize, with_start, with_features, with_sqpoll, with_sqpoll_cpu, with_attach, with_dontfork};
+ghost use Rattle.ring_setup.specs.Setup.{default_settings, is_buildable, parameters_for, asked_entries, asked_completions, with_setup, with_cqsize, with_start, with_features, with_sqpoll, with_sqpoll_cpu, with_attach, with_dontfork};
+ghost use Rattle.ring_setup.specs.declared.setup_flags.TheConstants.SetupFlags.{IOPOLL, CLAMP, R_DISABLED, SUBMIT_ALL, COOP_TASKRUN, TASKRUN_FLAG, SINGLE_ISSUER, DEFER_TASKRUN, NO_SQARRAY};
 ghost use Rattle.uring_ring.specs.IoUring.{IsOpened, TellsSizes, parameters_of};
 
 use crate::io_uring::IoUring;
+use bitflags::Flags as _;
 use ring_core::SetupError;
-use ring_setup::{Parameters, Settings};
+use ring_setup::{Parameters, Settings, SetupFlags};
 use std::alloc::Global;
 use std::marker::PhantomData;
 use uring_large::squeue::EntryMarker;
@@ -63,37 +65,37 @@ impl<S: EntryMarker, C: cqueue::EntryMarker> Builder<S, C> {
         self
     }
 
-    /// Asks that completions are polled for (setup bit 0).
+    /// Asks that completions are polled for.
     pub fn setup_iopoll(&mut self) -> &mut Builder<S, C>
         ensures same { result.ghost_name ≡ self.entry.ghost_name }
-        ensures settings { result.now.settings ≡ with_bit 1 self.old.settings }
+        ensures settings { result.now.settings ≡ with_setup IOPOLL self.old.settings }
     {
-        self.settings.setup |= 1;
+        self.settings.setup |= SetupFlags::IOPOLL.bits();
         self
     }
 
     /// Asks for a thread of the partner's own that takes the entries, and falls asleep after so many
-    /// milliseconds without work (setup bit 1).
+    /// milliseconds without work.
     pub fn setup_sqpoll(&mut self, idle: u32) -> &mut Builder<S, C>
         ensures same { result.ghost_name ≡ self.entry.ghost_name }
         ensures settings { result.now.settings ≡ with_sqpoll idle self.old.settings }
     {
-        self.settings.setup |= 2;
+        self.settings.setup |= SetupFlags::SQPOLL.bits();
         self.settings.sq_thread_idle = idle;
         self
     }
 
-    /// Asks that this thread runs on one processor (setup bit 2).
+    /// Asks that this thread runs on one processor.
     pub fn setup_sqpoll_cpu(&mut self, cpu: u32) -> &mut Builder<S, C>
         ensures same { result.ghost_name ≡ self.entry.ghost_name }
         ensures settings { result.now.settings ≡ with_sqpoll_cpu cpu self.old.settings }
     {
-        self.settings.setup |= 4;
+        self.settings.setup |= SetupFlags::SQ_AFF.bits();
         self.settings.sq_thread_cpu = cpu;
         self
     }
 
-    /// Asks for so many completions, rounded up to a power of two (setup bit 3). Without it the
+    /// Asks for so many completions, rounded up to a power of two. Without it the
     /// completion ring has twice the size of the submission ring.
     pub fn setup_cqsize(&mut self, count: u32) -> &mut Builder<S, C>
         ensures same { result.ghost_name ≡ self.entry.ghost_name }
@@ -103,85 +105,85 @@ impl<S: EntryMarker, C: cqueue::EntryMarker> Builder<S, C> {
         self
     }
 
-    /// Asks that a count above its maximum is cut to the maximum (setup bit 4).
+    /// Asks that a count above its maximum is cut to the maximum.
     pub fn setup_clamp(&mut self) -> &mut Builder<S, C>
         ensures same { result.ghost_name ≡ self.entry.ghost_name }
-        ensures settings { result.now.settings ≡ with_bit 16 self.old.settings }
+        ensures settings { result.now.settings ≡ with_setup CLAMP self.old.settings }
     {
-        self.settings.setup |= 16;
+        self.settings.setup |= SetupFlags::CLAMP.bits();
         self
     }
 
-    /// Asks that the workers of the ring with this descriptor serve this one too (setup bit 5).
+    /// Asks that the workers of the ring with this descriptor serve this one too.
     pub fn setup_attach_wq(&mut self, fd: i32) -> &mut Builder<S, C>
         ensures same { result.ghost_name ≡ self.entry.ghost_name }
         ensures settings { result.now.settings ≡ with_attach fd self.old.settings }
     {
-        self.settings.setup |= 32;
+        self.settings.setup |= SetupFlags::ATTACH_WQ.bits();
         self.settings.wq_fd = fd;
         self
     }
 
-    /// Asks for a ring that starts disabled (setup bit 6).
+    /// Asks for a ring that starts disabled.
     pub fn setup_r_disabled(&mut self) -> &mut Builder<S, C>
         ensures same { result.ghost_name ≡ self.entry.ghost_name }
-        ensures settings { result.now.settings ≡ with_bit 64 self.old.settings }
+        ensures settings { result.now.settings ≡ with_setup R_DISABLED self.old.settings }
     {
-        self.settings.setup |= 64;
+        self.settings.setup |= SetupFlags::R_DISABLED.bits();
         self
     }
 
-    /// Asks that the entries behind a wrong one are taken too (setup bit 7).
+    /// Asks that the entries behind a wrong one are taken too.
     pub fn setup_submit_all(&mut self) -> &mut Builder<S, C>
         ensures same { result.ghost_name ≡ self.entry.ghost_name }
-        ensures settings { result.now.settings ≡ with_bit 128 self.old.settings }
+        ensures settings { result.now.settings ≡ with_setup SUBMIT_ALL self.old.settings }
     {
-        self.settings.setup |= 128;
+        self.settings.setup |= SetupFlags::SUBMIT_ALL.bits();
         self
     }
 
-    /// Asks that the partner's work waits for the next call (setup bit 8).
+    /// Asks that the partner's work waits for the next call.
     pub fn setup_coop_taskrun(&mut self) -> &mut Builder<S, C>
         ensures same { result.ghost_name ≡ self.entry.ghost_name }
-        ensures settings { result.now.settings ≡ with_bit 256 self.old.settings }
+        ensures settings { result.now.settings ≡ with_setup COOP_TASKRUN self.old.settings }
     {
-        self.settings.setup |= 256;
+        self.settings.setup |= SetupFlags::COOP_TASKRUN.bits();
         self
     }
 
-    /// Asks that waiting work is shown by the submission ring's flags (setup bit 9).
+    /// Asks that waiting work is shown by the submission ring's flags.
     pub fn setup_taskrun_flag(&mut self) -> &mut Builder<S, C>
         ensures same { result.ghost_name ≡ self.entry.ghost_name }
-        ensures settings { result.now.settings ≡ with_bit 512 self.old.settings }
+        ensures settings { result.now.settings ≡ with_setup TASKRUN_FLAG self.old.settings }
     {
-        self.settings.setup |= 512;
+        self.settings.setup |= SetupFlags::TASKRUN_FLAG.bits();
         self
     }
 
-    /// Asks that the partner's work waits for an enter that wants completions (setup bit 13).
+    /// Asks that the partner's work waits for an enter that wants completions.
     pub fn setup_defer_taskrun(&mut self) -> &mut Builder<S, C>
         ensures same { result.ghost_name ≡ self.entry.ghost_name }
-        ensures settings { result.now.settings ≡ with_bit 8192 self.old.settings }
+        ensures settings { result.now.settings ≡ with_setup DEFER_TASKRUN self.old.settings }
     {
-        self.settings.setup |= 8192;
+        self.settings.setup |= SetupFlags::DEFER_TASKRUN.bits();
         self
     }
 
-    /// Promises that one thread alone submits (setup bit 12).
+    /// Promises that one thread alone submits.
     pub fn setup_single_issuer(&mut self) -> &mut Builder<S, C>
         ensures same { result.ghost_name ≡ self.entry.ghost_name }
-        ensures settings { result.now.settings ≡ with_bit 4096 self.old.settings }
+        ensures settings { result.now.settings ≡ with_setup SINGLE_ISSUER self.old.settings }
     {
-        self.settings.setup |= 4096;
+        self.settings.setup |= SetupFlags::SINGLE_ISSUER.bits();
         self
     }
 
-    /// Asks for a submission ring without an index of its slots (setup bit 16).
+    /// Asks for a submission ring without an index of its slots.
     pub fn setup_no_sqarray(&mut self) -> &mut Builder<S, C>
         ensures same { result.ghost_name ≡ self.entry.ghost_name }
-        ensures settings { result.now.settings ≡ with_bit 65536 self.old.settings }
+        ensures settings { result.now.settings ≡ with_setup NO_SQARRAY self.old.settings }
     {
-        self.settings.setup |= 65536;
+        self.settings.setup |= SetupFlags::NO_SQARRAY.bits();
         self
     }
 
@@ -194,7 +196,7 @@ impl<S: EntryMarker, C: cqueue::EntryMarker> Builder<S, C> {
         self
     }
 
-    /// The feature bits of the ring. Without it each bit that has a name is set.
+    /// The feature flags of the ring. Without it the ring has each feature that has a name.
     pub fn features(&mut self, features: u32) -> &mut Builder<S, C>
         ensures same { result.ghost_name ≡ self.entry.ghost_name }
         ensures settings { result.now.settings ≡ with_features features self.old.settings }

@@ -2,12 +2,15 @@
 
 ghost use Rattle.std.specs.Prelude.{◌≡◌, ◌↔◌, ◌-◌, ◌<◌, ◌≤◌, ◌++◌, IsTrue, length, map, min, drop, Some};
 ghost use Rattle.std.specs.Iterator.{at_most};
-ghost use Rattle.uring_base.specs.FlagBits.{has_bit};
 ghost use Rattle.ring_core.specs.Slots.{held_of, with_head, with_tail_seen, taken_out};
-ghost use Rattle.uring_ring.specs.Queues.{completions_at, completion_words_at, completions_of_status, received_as, first_received, QueueSteps, with_flag, without_flag};
+ghost use Rattle.ring_setup.specs.RingFlags.{shows_partner};
+ghost use Rattle.ring_setup.specs.declared.ring_flags.TheConstants.CompletionRingFlags.{EVENTFD_DISABLED};
+ghost use Rattle.uring_ring.specs.Queues.{completions_at, completion_words_at, completions_of_status, received_as, first_received, QueueSteps, with_events, without_events};
 
 use crate::completion_ring::CompletionRing;
+use bitflags::Flags as _;
 use ring_core::{End, sync};
+use ring_setup::CompletionRingFlags;
 use std::marker::PhantomData;
 use uring_base::{Completion, Loan};
 use uring_large::cqueue::{Entry, EntryMarker};
@@ -122,29 +125,32 @@ impl<C> CompletionQueue<'_, C> {
         self.ring.words.overflow
     }
 
-    /// Whether no event is to be sent for a completion (flag 1).
+    /// Whether no event is to be sent for a completion.
     pub fn eventfd_disabled(&self) -> bool
-        ensures { result ≡ has_bit (completion_words_at self.now).flags 1 }
+        ensures { result ≡ shows_partner (completion_words_at self.now).flags EVENTFD_DISABLED }
     {
-        self.ring.words.flags % 2 == 1
+        CompletionRingFlags::from_bits_retain(self.ring.words.flags)
+            .contains(CompletionRingFlags::EVENTFD_DISABLED)
     }
 
     /// Asks that no event is sent for a completion.
     pub fn disable_eventfd(&mut self)
         ensures completions { completions_at self.new ≡ completions_at self.old }
-        ensures words { completion_words_at self.new ≡ with_flag (completion_words_at self.old) }
+        ensures words { completion_words_at self.new ≡ without_events (completion_words_at self.old) }
         ensures same_reference { self.new.ring.ghost_name ≡ self.old.ring.ghost_name }
     {
-        self.ring.words.flags |= 1;
+        self.ring.words.flags |= CompletionRingFlags::EVENTFD_DISABLED.bits();
     }
 
     /// Asks that events are sent again.
     pub fn enable_eventfd(&mut self)
         ensures completions { completions_at self.new ≡ completions_at self.old }
-        ensures words { completion_words_at self.new ≡ without_flag (completion_words_at self.old) }
+        ensures words { completion_words_at self.new ≡ with_events (completion_words_at self.old) }
         ensures same_reference { self.new.ring.ghost_name ≡ self.old.ring.ghost_name }
     {
-        self.ring.words.flags -= self.ring.words.flags % 2;
+        let mut flags = CompletionRingFlags::from_bits_retain(self.ring.words.flags);
+        flags.remove(CompletionRingFlags::EVENTFD_DISABLED);
+        self.ring.words.flags = flags.bits();
     }
 
     /// What can be told of the ring without taking from it.

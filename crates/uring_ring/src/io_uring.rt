@@ -1,6 +1,7 @@
 //! The pair of rings for one thread.
 
 ghost use Rattle.std.specs.Prelude.{◌≡◌, ◌≤◌, length};
+ghost use Rattle.uring_base.specs.declared.limits.TheConstants.{MAX_ENTRIES};
 
 use crate::completion_queue::CompletionQueue;
 use crate::completion_ring::CompletionRing;
@@ -38,7 +39,7 @@ impl IoUring<Entry, cqueue::Entry> {
         ensures ok { IfOk result (λ ring. IsOpened ring (rounded_up entries) (2 * rounded_up entries) 0) }
         ensures parameters { IfOk result (λ ring. parameters_of ring ≡ parameters_for (default_settings 0) entries) }
         ensures sizes { IfOk result TellsSizes }
-        ensures valid { IfOk result (λ _. (0 < entries) × (entries ≤ 32768)) }
+        ensures valid { IfOk result (λ _. (0 < entries) × (entries ≤ MAX_ENTRIES)) }
         ensures invalid { IfErr result (λ error. (error ≡ SetupError.Invalid) ↔ IsInvalidCount entries) }
     {
         IoUring::with_start(alloc, entries, 0)
@@ -49,7 +50,7 @@ impl IoUring<Entry, cqueue::Entry> {
         ensures ok { IfOk result (λ ring. IsOpened ring (rounded_up entries) (2 * rounded_up entries) start) }
         ensures parameters { IfOk result (λ ring. parameters_of ring ≡ parameters_for (default_settings 0) entries) }
         ensures sizes { IfOk result TellsSizes }
-        ensures valid { IfOk result (λ _. (0 < entries) × (entries ≤ 32768)) }
+        ensures valid { IfOk result (λ _. (0 < entries) × (entries ≤ MAX_ENTRIES)) }
         ensures invalid { IfErr result (λ error. (error ≡ SetupError.Invalid) ↔ IsInvalidCount entries) }
     {
         let mut builder = IoUring::<Entry, cqueue::Entry>::builder();
@@ -73,7 +74,7 @@ impl<S, C> IoUring<S, C> {
     ) -> Result<IoUring<S, C>, AllocError>
         requires entries { is_ring_size (told_entries parameters) ≡ true }
         requires completions { is_ring_size (told_completions parameters) ≡ true }
-        requires small { told_entries parameters ≤ 32768 }
+        requires small { told_entries parameters ≤ MAX_ENTRIES }
         ensures ok { IfOk result (λ ring. IsOpened ring (told_entries parameters) (told_completions parameters) start) }
         ensures parameters { IfOk result (λ ring. parameters_of ring ≡ parameters) }
         ensures sizes { IfOk result TellsSizes }
@@ -163,12 +164,12 @@ impl<S, C: cqueue::EntryMarker> Rings for IoUring<S, C> {
 }
 
 impl<S, C: cqueue::EntryMarker> PartnerSide for IoUring<S, C> {
-    ghost use Rattle.std.specs.Prelude.{◌+◌, ◌<◌, ◌↔◌, [], ◌∷◌, IsOk, IsSome, OnOk, OnErr, IfErr, ◌⊎◌};
+    ghost use Rattle.std.specs.Prelude.{◌+◌, ◌<◌, ◌↔◌, [], ◌∷◌, true, IsOk, IsSome, OnOk, OnErr, IfErr, ◌⊎◌};
     ghost use Rattle.std.proofs.Common.{ap};
     ghost use Rattle.std.specs.Option.{option_to_list};
-    ghost use Rattle.ring_traits.specs.Lists.{room_of};
+    ghost use Rattle.ring_traits.specs.Lists.{room_of, one_more};
     ghost use Rattle.uring_ring.specs.Sizes.{kept_as};
-    ghost use Rattle.uring_ring.specs.IoUring.{RingMoves, RingMarks, lists_of, entries_in, completions_in, words_of, one_more, counters_of};
+    ghost use Rattle.uring_ring.specs.IoUring.{RingMoves, RingMarks, lists_of, entries_in, completions_in, ring_words};
     ghost use Rattle.uring_ring.specs.Laws.{RingMoves-none, RingMoves-then, marked_lists};
 
     ghost moved = { RingMoves (kept_as C.made_of C.big_of) };
@@ -177,9 +178,13 @@ impl<S, C: cqueue::EntryMarker> PartnerSide for IoUring<S, C> {
 
     ghost space = { λ ring. (completions_in ring).spare };
 
-    ghost flags_word = { λ ring. (words_of ring).flags };
+    ghost has_words = { true };
 
-    ghost counters = { λ ring. counters_of (words_of ring) };
+    ghost flags_word = { λ ring. (ring_words ring).flags };
+
+    ghost dropped = { λ ring. (ring_words ring).dropped };
+
+    ghost overflow = { λ ring. (ring_words ring).overflow };
 
     ghost marked = { RingMarks };
 
@@ -190,7 +195,7 @@ impl<S, C: cqueue::EntryMarker> PartnerSide for IoUring<S, C> {
         ensures grows { (entries_in self.old).waiting ≤ (entries_in self.new).waiting }
         ensures space { (completions_in self.new).spare ≡ (completions_in self.old).spare }
         ensures told { result ≡ length (entries_in self.old).published }
-        ensures words { words_of self.new ≡ words_of self.old }
+        ensures words { ring_words self.new ≡ ring_words self.old }
     {
         self.submissions.published()
     }
@@ -202,7 +207,7 @@ impl<S, C: cqueue::EntryMarker> PartnerSide for IoUring<S, C> {
         ensures none { IsSome result ⊎ ((entries_in self.new).waiting ≡ 0) }
         ensures count { (entries_in self.old).waiting ≤ (entries_in self.new).waiting + length (option_to_list result) }
         ensures space { (completions_in self.new).spare ≡ (completions_in self.old).spare }
-        ensures words { words_of self.new ≡ words_of self.old }
+        ensures words { ring_words self.new ≡ ring_words self.old }
     {
         self.submissions.take()
     }
@@ -213,7 +218,7 @@ impl<S, C: cqueue::EntryMarker> PartnerSide for IoUring<S, C> {
         ensures grows { (completions_in self.old).spare ≤ (completions_in self.new).spare }
         ensures ready { (entries_in self.new).waiting ≡ (entries_in self.old).waiting }
         ensures told { result ≡ room_of (lists_of self.old) }
-        ensures words { words_of self.new ≡ words_of self.old }
+        ensures words { ring_words self.new ≡ ring_words self.old }
     {
         self.completions.room()
     }
@@ -225,7 +230,7 @@ impl<S, C: cqueue::EntryMarker> PartnerSide for IoUring<S, C> {
         ensures back { IfErr result (λ c. c ≡ completion) }
         ensures err { OnErr result (RingMoves (kept_as C.made_of C.big_of) self.old [] [] self.new × ((completions_in self.new).spare ≡ 0)) }
         ensures ready { (entries_in self.new).waiting ≡ (entries_in self.old).waiting }
-        ensures words { words_of self.new ≡ words_of self.old }
+        ensures words { ring_words self.new ≡ ring_words self.old }
     {
         self.completions.post::<C>(completion)
     }
@@ -236,19 +241,20 @@ impl<S, C: cqueue::EntryMarker> PartnerSide for IoUring<S, C> {
 
     fn set_sq_flags(&mut self, flags: u32)
         ensures marked { RingMarks self.old self.new }
-        ensures word { ((words_of self.new).flags ≡ flags) ⊎ ((words_of self.new).flags ≡ 0) }
-        ensures counters { counters_of (words_of self.new) ≡ counters_of (words_of self.old) }
+        ensures word { (ring_words self.new).flags ≡ flags }
+        ensures counters { ((ring_words self.new).dropped ≡ (ring_words self.old).dropped) × ((ring_words self.new).overflow ≡ (ring_words self.old).overflow) }
         ensures known { ((entries_in self.new).waiting ≡ (entries_in self.old).waiting) × ((completions_in self.new).spare ≡ (completions_in self.old).spare) }
-        ensures words { words_of self.new ≡ record (words_of self.old) { flags = flags } }
+        ensures words { ring_words self.new ≡ record (ring_words self.old) { flags = flags } }
     {
         self.submissions.words.flags = flags;
     }
 
     fn add_dropped(&mut self)
         ensures marked { RingMarks self.old self.new }
-        ensures word { (words_of self.new).flags ≡ (words_of self.old).flags }
+        ensures counter { (ring_words self.new).dropped ≡ one_more (ring_words self.old).dropped }
+        ensures others { ((ring_words self.new).flags ≡ (ring_words self.old).flags) × ((ring_words self.new).overflow ≡ (ring_words self.old).overflow) }
         ensures known { ((entries_in self.new).waiting ≡ (entries_in self.old).waiting) × ((completions_in self.new).spare ≡ (completions_in self.old).spare) }
-        ensures words { words_of self.new ≡ record (words_of self.old) { dropped = one_more (words_of self.old).dropped } }
+        ensures words { ring_words self.new ≡ record (ring_words self.old) { dropped = one_more (ring_words self.old).dropped } }
     {
         let dropped = self.submissions.words.dropped;
         self.submissions.words.dropped = dropped.saturating_add(1);
@@ -256,9 +262,10 @@ impl<S, C: cqueue::EntryMarker> PartnerSide for IoUring<S, C> {
 
     fn add_overflow(&mut self)
         ensures marked { RingMarks self.old self.new }
-        ensures word { (words_of self.new).flags ≡ (words_of self.old).flags }
+        ensures counter { (ring_words self.new).overflow ≡ one_more (ring_words self.old).overflow }
+        ensures others { ((ring_words self.new).flags ≡ (ring_words self.old).flags) × ((ring_words self.new).dropped ≡ (ring_words self.old).dropped) }
         ensures known { ((entries_in self.new).waiting ≡ (entries_in self.old).waiting) × ((completions_in self.new).spare ≡ (completions_in self.old).spare) }
-        ensures words { words_of self.new ≡ record (words_of self.old) { overflow = one_more (words_of self.old).overflow } }
+        ensures words { ring_words self.new ≡ record (ring_words self.old) { overflow = one_more (ring_words self.old).overflow } }
     {
         let overflow = self.completions.words.overflow;
         self.completions.words.overflow = overflow.saturating_add(1);
@@ -272,7 +279,7 @@ impl<S, C: cqueue::EntryMarker> PartnerSide for IoUring<S, C> {
 
     ghost moved_places = { λ a b ts cs moves. (moves.offer_place, moves.reap_place) };
 
-    ghost moved_words = { λ a b ts cs moves. (ap (λ w. w.flags) moves.words, ap counters_of moves.words) };
+    ghost moved_words = { λ a b ts cs moves. (ap (λ w. w.flags) moves.words, ap (λ w. w.dropped) moves.words, ap (λ w. w.overflow) moves.words) };
 
     ghost marked_told = { marked_lists };
 

@@ -55,12 +55,11 @@ impl<S, C: cqueue::EntryMarker> Rings for PlainSide<'_, '_, S, C> {
 }
 
 impl<S, C: cqueue::EntryMarker> PartnerSide for PlainSide<'_, '_, S, C> {
-    ghost use Rattle.std.specs.Prelude.{◌+◌, ◌<◌, ◌↔◌, ◌⊎◌, [], ◌∷◌, IsOk, IsSome, OnOk, OnErr, IfErr};
+    ghost use Rattle.std.specs.Prelude.{◌+◌, ◌<◌, ◌↔◌, ◌⊎◌, [], ◌∷◌, true, IsOk, IsSome, OnOk, OnErr, IfErr};
     ghost use Rattle.std.proofs.Common.{ap};
     ghost use Rattle.std.specs.Option.{option_to_list};
-    ghost use Rattle.ring_traits.specs.Lists.{room_of};
+    ghost use Rattle.ring_traits.specs.Lists.{room_of, one_more};
     ghost use Rattle.uring_ring.specs.Sizes.{kept_as};
-    ghost use Rattle.uring_ring.specs.IoUring.{one_more, counters_of};
     ghost use Rattle.uring_ring.specs.PlainSide.{SideMoves, SideMarks, side_lists, side_entries, side_completions, side_words};
     ghost use Rattle.uring_ring.specs.Laws.{SideMoves-none, SideMoves-then, marked_side};
 
@@ -70,9 +69,13 @@ impl<S, C: cqueue::EntryMarker> PartnerSide for PlainSide<'_, '_, S, C> {
 
     ghost space = { λ side. (side_completions side).spare };
 
+    ghost has_words = { true };
+
     ghost flags_word = { λ side. (side_words side).flags };
 
-    ghost counters = { λ side. counters_of (side_words side) };
+    ghost dropped = { λ side. (side_words side).dropped };
+
+    ghost overflow = { λ side. (side_words side).overflow };
 
     ghost marked = { SideMarks };
 
@@ -129,9 +132,9 @@ impl<S, C: cqueue::EntryMarker> PartnerSide for PlainSide<'_, '_, S, C> {
 
     fn set_sq_flags(&mut self, flags: u32)
         ensures marked { SideMarks self.old self.new }
-        ensures counters { counters_of (side_words self.new) ≡ counters_of (side_words self.old) }
+        ensures counters { ((side_words self.new).dropped ≡ (side_words self.old).dropped) × ((side_words self.new).overflow ≡ (side_words self.old).overflow) }
         ensures known { ((side_entries self.new).waiting ≡ (side_entries self.old).waiting) × ((side_completions self.new).spare ≡ (side_completions self.old).spare) }
-        ensures word { ((side_words self.new).flags ≡ flags) ⊎ ((side_words self.new).flags ≡ 0) }
+        ensures word { (side_words self.new).flags ≡ flags }
         ensures words { side_words self.new ≡ record (side_words self.old) { flags = flags } }
     {
         let queue = &mut *self.submissions;
@@ -141,7 +144,8 @@ impl<S, C: cqueue::EntryMarker> PartnerSide for PlainSide<'_, '_, S, C> {
 
     fn add_dropped(&mut self)
         ensures marked { SideMarks self.old self.new }
-        ensures word { (side_words self.new).flags ≡ (side_words self.old).flags }
+        ensures counter { (side_words self.new).dropped ≡ one_more (side_words self.old).dropped }
+        ensures others { ((side_words self.new).flags ≡ (side_words self.old).flags) × ((side_words self.new).overflow ≡ (side_words self.old).overflow) }
         ensures known { ((side_entries self.new).waiting ≡ (side_entries self.old).waiting) × ((side_completions self.new).spare ≡ (side_completions self.old).spare) }
         ensures words { side_words self.new ≡ record (side_words self.old) { dropped = one_more (side_words self.old).dropped } }
     {
@@ -152,7 +156,8 @@ impl<S, C: cqueue::EntryMarker> PartnerSide for PlainSide<'_, '_, S, C> {
 
     fn add_overflow(&mut self)
         ensures marked { SideMarks self.old self.new }
-        ensures word { (side_words self.new).flags ≡ (side_words self.old).flags }
+        ensures counter { (side_words self.new).overflow ≡ one_more (side_words self.old).overflow }
+        ensures others { ((side_words self.new).flags ≡ (side_words self.old).flags) × ((side_words self.new).dropped ≡ (side_words self.old).dropped) }
         ensures known { ((side_entries self.new).waiting ≡ (side_entries self.old).waiting) × ((side_completions self.new).spare ≡ (side_completions self.old).spare) }
         ensures words { side_words self.new ≡ record (side_words self.old) { overflow = one_more (side_words self.old).overflow } }
     {
@@ -169,7 +174,7 @@ impl<S, C: cqueue::EntryMarker> PartnerSide for PlainSide<'_, '_, S, C> {
 
     ghost moved_places = { λ a b ts cs moves. (moves.offer_place, moves.reap_place) };
 
-    ghost moved_words = { λ a b ts cs moves. (ap (λ w. w.flags) moves.words, ap counters_of moves.words) };
+    ghost moved_words = { λ a b ts cs moves. (ap (λ w. w.flags) moves.words, ap (λ w. w.dropped) moves.words, ap (λ w. w.overflow) moves.words) };
 
     ghost marked_told = { marked_side };
 

@@ -1,13 +1,16 @@
 //! The user's end of the submission ring.
 
 ghost use Rattle.std.specs.Prelude.{◌≡◌, ◌↔◌, ◌-◌, ◌<◌, ◌≤◌, IsTrue, IsOk, OnOk, OnErr, IfErr, length, map, nat_eq, ⊤};
-ghost use Rattle.uring_base.specs.FlagBits.{has_bit};
 ghost use Rattle.ring_core.specs.Slots.{held_of, with_put, with_puts, with_tail, with_head_seen};
+ghost use Rattle.ring_setup.specs.RingFlags.{shows};
+ghost use Rattle.ring_setup.specs.declared.ring_flags.TheConstants.SubmissionFlags.{NEED_WAKEUP, CQ_OVERFLOW, TASKRUN};
 ghost use Rattle.uring_ring.specs.Queues.{entries_at, submission_words_at, refused};
 ghost use Rattle.uring_ring.specs.Sizes.{taken_as, unlent};
 
 use crate::submission_ring::SubmissionRing;
+use bitflags::Flags as _;
 use ring_core::{End, sync};
+use ring_setup::SubmissionFlags;
 use std::fmt;
 use std::marker::PhantomData;
 use uring_base::{Loan, Taken};
@@ -146,32 +149,32 @@ impl<S> SubmissionQueue<'_, S> {
         self.ring.words.dropped
     }
 
-    /// Whether the partner's own thread sleeps and wants an enter (flag 1).
+    /// Whether the partner's own thread sleeps and wants an enter.
     pub fn need_wakeup(&self) -> bool
-        ensures { result ≡ has_bit (submission_words_at self.now).flags 1 }
+        ensures { result ≡ shows (submission_words_at self.now).flags NEED_WAKEUP }
     {
-        self.ring.words.flags % 2 == 1
+        SubmissionFlags::from_bits_retain(self.ring.words.flags).contains(SubmissionFlags::NEED_WAKEUP)
     }
 
     /// The same. In the Rust crate it leaves a fence between two threads to the caller; here one
     /// thread has both ends.
     pub fn need_wakeup_after_intermittent_seqcst(&self) -> bool
-        ensures { result ≡ has_bit (submission_words_at self.now).flags 1 }
+        ensures { result ≡ shows (submission_words_at self.now).flags NEED_WAKEUP }
     {
         self.need_wakeup()
     }
 
-    /// Whether the partner holds completions that didn't fit (flag 2).
+    /// Whether the partner holds completions that didn't fit.
     pub fn cq_overflow(&self) -> bool
-        ensures { result ≡ has_bit (submission_words_at self.now).flags 2 }
+        ensures { result ≡ shows (submission_words_at self.now).flags CQ_OVERFLOW }
     {
-        self.ring.words.flags / 2 % 2 == 1
+        SubmissionFlags::from_bits_retain(self.ring.words.flags).contains(SubmissionFlags::CQ_OVERFLOW)
     }
 
-    /// Whether work of the partner waits for an enter (flag 4).
+    /// Whether work of the partner waits for an enter.
     pub fn taskrun(&self) -> bool
-        ensures { result ≡ has_bit (submission_words_at self.now).flags 4 }
+        ensures { result ≡ shows (submission_words_at self.now).flags TASKRUN }
     {
-        self.ring.words.flags / 4 % 2 == 1
+        SubmissionFlags::from_bits_retain(self.ring.words.flags).contains(SubmissionFlags::TASKRUN)
     }
 }

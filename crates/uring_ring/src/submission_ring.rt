@@ -1,6 +1,7 @@
 //! The submission ring with the words beside it.
 
 ghost use Rattle.std.specs.Prelude.{◌≡◌, ◌≤◌};
+ghost use Rattle.uring_base.specs.declared.limits.TheConstants.{MAX_ENTRIES};
 ghost use Rattle.ring_core.specs.Slots.{held_of};
 
 use ring_core::{End, Slots};
@@ -19,7 +20,7 @@ pub(crate) struct SubmissionWords {
 pub(crate) struct SubmissionRing {
     pub(crate) slots: Slots<Taken>,
     pub(crate) words: SubmissionWords,
-    ghost small: { (held_of slots).capacity ≤ 32768 },
+    ghost small: { (held_of slots).capacity ≤ MAX_ENTRIES },
     // what the partner takes it gives back at once
     ghost given_back: { (held_of slots).taken ≡ 0 },
 }
@@ -36,7 +37,7 @@ impl SubmissionRing {
         start: u32,
     ) -> Result<SubmissionRing, AllocError>
         requires size { is_ring_size capacity ≡ true }
-        requires small { capacity ≤ 32768 }
+        requires small { capacity ≤ MAX_ENTRIES }
         ensures entries { IfOk result (λ ring. held_of ring.slots ≡ opened capacity start) }
         ensures words { IfOk result (λ ring. ring.words ≡ record { flags = 0; dropped = 0 }) }
     {
