@@ -7,21 +7,13 @@ use Rattle.uring_model.specs.Schedule.{Machine, State}
 use Rattle.ring_setup.specs.declared.parameters.Parameters.{Parameters}
 use Rattle.ring_traits.specs.Lists.{Lists, Becomes, all_published}
 use Rattle.uring_submit.specs.declared.error.SubmitError.{SubmitError}
-use Rattle.uring_submit.specs.declared.error.SubmitError.TheVariants as submit
 use Rattle.uring_submit.specs.Decisions.{wanted_call}
 use Rattle.uring_submit.specs.Submits.{EntersOnce}
-use Rattle.rent_engine.specs.declared.ops.EngineFault.{EngineFault}
-use Rattle.rent_engine.specs.declared.ops.EngineFault.TheVariants.{Fault, NoMemory}
+use Rattle.rent_engine.specs.declared.fault.EngineFault.{EngineFault}
 use Rattle.rent_engine.specs.declared.ops.TurnReport.{TurnReport}
 use Rattle.rent_engine.specs.Ops.{Ops}
-use Rattle.rent_engine.specs.Engines.{Pumped, ending, finals_in}
-
--- A submitter's error, handed on: an error number is the partner's.
-abbrev pub fault_of : SubmitError → EngineFault
-fault_of submit.Exists = Fault EEXIST
-fault_of submit.NotRegistered = Fault EINVAL
-fault_of (submit.Fault errno) = Fault errno
-fault_of submit.NoMemory = NoMemory
+use Rattle.rent_engine.specs.Engines.{Pumped, finals_in}
+use Rattle.rent_engine.specs.Faults.{ending, fault_of}
 
 module _ {W : Type 0} (m : Machine W) {P R : Type 0} (log : P → Option (List LogEvent)) (state : P → Option (State W)) (lists : R → Option Lists) (ready space : R → ℕ) (moved : R → List Taken → List Completion → R → Type 0) (flags_word : R → ℕ) (used : R → List Taken → List Completion → R → Type 0) where
   -- what was offered is published, and the partner enters once, over all that is published, and waits for one completion
