@@ -10,9 +10,10 @@ in the entry. LAYOUT was typed in from the same description of the entry's 64 by
 from this repository's Rust code or its definitions, and nothing here reads them. So a word that two
 readers of that description understood in different ways shows as a difference.
 
-What the lines are. The program crates/builder_table builds the same entries with the builders and
-writes their bytes. Both have the values of VALUES, and nothing else in common. For each builder, in
-the table's order, there is a line with its name and its entry's bytes in hex for
+What the lines are. The program crates/builder_table writes the code that each builder tells, builds
+the same entries with the builders and writes their bytes. Both have the values of VALUES, and nothing
+else in common. First there is a line for each builder, in the table's order, with its name and its
+code. Then for each builder there is a line with its name and its entry's bytes in hex for
 
   - everything given, on a registered file where it takes a target;
   - what `new` takes alone, on a raw descriptor, where that is another entry;
@@ -442,7 +443,8 @@ def other(kind, value):
 
 def table():
     """All lines."""
-    return "".join(f"{row[0]} {entry(row, given).hex()}\n" for row in ROWS for given in cases(row))
+    codes = "".join(f"{row[0]} {row[1]}\n" for row in ROWS)
+    return codes + "".join(f"{row[0]} {entry(row, given).hex()}\n" for row in ROWS for given in cases(row))
 
 
 def main(words):

@@ -1,8 +1,9 @@
-//! Builds an entry with each builder, of wide values, and writes its bytes in hex: a line for each,
-//! with the builder's name. What must come out was worked out from a table of operations that was
-//! written by hand, without this code.
+//! Writes each builder's operation code. Then builds an entry with each builder, of wide values, and
+//! writes its bytes in hex: a line for each, with the builder's name. What must come out was worked
+//! out from a table of operations that was written by hand, without this code.
 #![tactic(auto)]
 
+mod codes;
 mod commands;
 mod files;
 mod lines;
@@ -59,6 +60,7 @@ fn net_operations<R: Alloc + Print>(rt: &R) -> io::Result<()> {
 }
 
 fn main(rt: HostRuntime) -> io::Result<()> {
+    codes::codes(&rt)?;
     file_operations(&rt)?;
     net_operations(&rt)
 }

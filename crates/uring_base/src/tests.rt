@@ -1,6 +1,6 @@
 use crate::squeue::{Entry, Flags};
 use crate::types::{Fd, Fixed, FsyncFlags, Target, UseTarget};
-use crate::{Buf, Loan, Nums, cqueue};
+use crate::{Buf, Loan, Nums, cqueue, errno, limits};
 use bitflags::Flags as _;
 use std::test::Fail;
 
@@ -70,17 +70,10 @@ fn names_of_flags(rt: HostRuntime) {
     assert!(rt; Flags::IO_DRAIN < Flags::IO_LINK);
 }
 
-/// The bit of value 2 says that more are to come.
-#[test]
-fn more_to_come(rt: HostRuntime) {
-    assert!(rt; cqueue::more(2));
-    assert!(rt; cqueue::more(0x30003));
-    assert!(rt; !cqueue::more(0x3000d));
-}
-
 /// Each bit of a completion's flags, and the number of a buffer above them.
 #[test]
 fn flags_of_a_completion(rt: HostRuntime) {
+    assert!(rt; cqueue::more(2) && cqueue::more(0x30003) && !cqueue::more(0x3000d));
     assert!(rt; cqueue::buffer_more(16) && !cqueue::buffer_more(0xf000f));
     assert!(rt; cqueue::sock_nonempty(4) && !cqueue::sock_nonempty(0x4001b));
     assert!(rt; cqueue::notif(8) && !cqueue::notif(0x80017));
@@ -148,16 +141,19 @@ fn bytes_of_a_completion(rt: HostRuntime) {
     assert_eq!(rt; cqueue::Entry::from_bytes(&bytes), completion);
 }
 
-/// A number that is replaced reads as the new one.
+/// The error numbers of `errno.h`, and the limits of the io_uring header.
 #[test]
-fn numbers(rt: HostRuntime) {
-    let mut entry = Entry::blank(0).user_data(1);
-    assert_eq!(rt; entry.user_data(2).get_user_data(), 2);
-    entry.set_user_data(3);
-    assert_eq!(rt; entry.get_user_data(), 3);
-    let mut completion = cqueue::Entry::from_parts(4, -5, 2, [0; 2]);
-    completion.set_user_data(5);
-    assert_eq!(rt; completion.user_data(), 5);
-    assert_eq!(rt; completion.result(), -5);
-    assert_eq!(rt; completion.flags(), 2);
+fn numbers_of_linux(rt: HostRuntime) {
+    assert_eq!(rt; (errno::ENOENT, errno::EINTR, errno::EIO), (2, 4, 5));
+    assert_eq!(rt; (errno::EBADF, errno::EEXIST, errno::ENOTDIR), (9, 17, 20));
+    assert_eq!(rt; (errno::EISDIR, errno::EINVAL, errno::EMFILE), (21, 22, 24));
+    assert_eq!(rt; (errno::EFBIG, errno::ENOTEMPTY), (27, 39));
+    assert_eq!(rt; (errno::EOPNOTSUPP, errno::ECANCELED), (95, 125));
+    assert_eq!(rt; limits::MAX_BUFFER, 0x7fff_ffff);
+    assert_eq!(rt; limits::MAX_POSITION, 0x7fff_ffff_ffff_ffff);
+    assert_eq!(rt;
+        (limits::MAX_ENTRIES, limits::MAX_COMPLETIONS),
+        (32768, 65536)
+    );
+    assert_eq!(rt; cqueue::BUFFER_SHIFT, 16);
 }

@@ -1,4 +1,6 @@
-//! Completion entries, and what their flags say.
+//! Completion entries of both sizes, and what their flags say.
 
-pub use uring_base::cqueue::{Entry, buffer_more, buffer_select, more, notif, sock_nonempty};
-pub use uring_large::cqueue::{Entry32, EntryMarker};
+pub use uring_base::cqueue::{
+    BUFFER_SHIFT, Entry, Flags, buffer_more, buffer_select, more, notif, sock_nonempty,
+};
+pub use uring_large::cqueue::{Entry32, EntryMarker, SETUP_CQE32};

@@ -1,4 +1,4 @@
-//! Submission entries.
+//! Submission entries of both sizes.
 
 pub use uring_base::squeue::{Entry, Flags};
-pub use uring_large::squeue::{Entry128, EntryMarker};
+pub use uring_large::squeue::{Entry128, EntryMarker, SETUP_SQE128};

@@ -3,8 +3,12 @@
 ghost use Rattle.std.specs.Prelude.{◌≡◌, ◌∷◌, [], ℕ, ℤ, List, refl};
 ghost use Rattle.uring_large.specs.Numbers.{completion_numbered, large_completion_numbered};
 ghost use Rattle.uring_base.specs.declared.cqueue.Entry.{Entry};
+ghost use Rattle.uring_large.specs.declared.completion_marker.TheConstants.{SETUP_CQE32};
 
 use crate::cqueue::{Entry, Entry32};
+
+/// The setup bit of a ring of completions of 32 bytes (`IORING_SETUP_CQE32`).
+pub const SETUP_CQE32: u32 = 2048;
 
 /// A form of completion entry. It holds a small entry, and can be made into it.
 pub trait EntryMarker: Clone + Into<Entry> + Sized {
@@ -23,7 +27,7 @@ pub trait EntryMarker: Clone + Into<Entry> + Sized {
     // A value with another number, all else as it was.
     ghost numbered: { Self → ℕ → Self };
 
-    /// The bit that the setup of a ring of these entries needs: 0, or `IORING_SETUP_CQE32`.
+    /// The bit that the setup of a ring of these entries needs: 0, or `SETUP_CQE32`.
     const BUILD_FLAGS: u32;
 
     /// The number that the submission entry carried.
@@ -100,7 +104,7 @@ impl EntryMarker for Entry {
 }
 
 impl EntryMarker for Entry32 {
-    ghost BUILD_FLAGS = { 2048 };
+    ghost BUILD_FLAGS = { SETUP_CQE32 };
 
     ghost entry_of = { λ large. large.entry };
 
@@ -120,7 +124,7 @@ impl EntryMarker for Entry32 {
 
     ghost restores = { λ value number. refl };
 
-    const BUILD_FLAGS: u32 = 2048;
+    const BUILD_FLAGS: u32 = SETUP_CQE32;
 
     fn user_data(&self) -> u64 {
         self.entry.user_data

@@ -3,7 +3,7 @@
 ghost use Rattle.std.specs.Prelude.{◌≡◌};
 ghost use Rattle.uring_large.specs.Numbers.{large_completion_numbered};
 
-pub use crate::completion_marker::EntryMarker;
+pub use crate::completion_marker::{EntryMarker, SETUP_CQE32};
 pub use uring_base::cqueue::Entry;
 
 /// A completion entry of 32 bytes: the words of a small one, and two numbers of the operation's

@@ -4,8 +4,12 @@ ghost use Rattle.std.specs.Prelude.{◌≡◌, ℕ, List, refl, replicate};
 ghost use Rattle.std.proofs.Common.{ap};
 ghost use Rattle.uring_large.specs.Numbers.{entry_numbered, large_entry_numbered};
 ghost use Rattle.uring_base.specs.declared.squeue.Entry.{Entry};
+ghost use Rattle.uring_large.specs.declared.entry_marker.TheConstants.{SETUP_SQE128};
 
 use crate::squeue::{Entry, Entry128};
+
+/// The setup bit of a ring of entries of 128 bytes (`IORING_SETUP_SQE128`).
+pub const SETUP_SQE128: u32 = 1024;
 
 /// A form of submission entry. It is made from a small entry, and holds one.
 pub trait EntryMarker: Clone + From<Entry> + Sized {
@@ -21,7 +25,7 @@ pub trait EntryMarker: Clone + From<Entry> + Sized {
     // A value with another number, all else as it was.
     ghost numbered: { Self → ℕ → Self };
 
-    /// The bit that the setup of a ring of these entries needs: 0, or `IORING_SETUP_SQE128`.
+    /// The bit that the setup of a ring of these entries needs: 0, or `SETUP_SQE128`.
     const BUILD_FLAGS: u32;
 
     /// Sets the number that comes back with the completion.
@@ -89,7 +93,7 @@ impl EntryMarker for Entry {
 }
 
 impl EntryMarker for Entry128 {
-    ghost BUILD_FLAGS = { 1024 };
+    ghost BUILD_FLAGS = { SETUP_SQE128 };
 
     ghost entry_of = { λ large. large.entry };
 
@@ -105,7 +109,7 @@ impl EntryMarker for Entry128 {
 
     ghost restores = { λ value number. refl };
 
-    const BUILD_FLAGS: u32 = 1024;
+    const BUILD_FLAGS: u32 = SETUP_SQE128;
 
     fn set_user_data(&mut self, user_data: u64) {
         self.entry.user_data = user_data;

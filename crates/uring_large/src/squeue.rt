@@ -4,7 +4,7 @@ ghost use Rattle.std.specs.Prelude.{◌≡◌, bit_or, replicate};
 ghost use Rattle.uring_base.specs.FlagBits.{bits_in};
 ghost use Rattle.uring_large.specs.Numbers.{large_entry_numbered};
 
-pub use crate::entry_marker::EntryMarker;
+pub use crate::entry_marker::{EntryMarker, SETUP_SQE128};
 pub use uring_base::squeue::Entry;
 use uring_base::squeue::Flags;
 

@@ -2,6 +2,7 @@
 
 ghost use Rattle.std.specs.Prelude.{◌≡◌};
 
+use uring_base::opcodes;
 use uring_base::squeue::Entry;
 
 /// Cancels an operation that isn't done. Its result is 0, or an errno below 0: `ENOENT` where
@@ -15,7 +16,7 @@ impl AsyncCancel {
     ghost use Rattle.uring_ops_file.specs.Rows.{new_async_cancel, async_cancel_words};
 
     /// `IORING_OP_ASYNC_CANCEL` of `linux/io_uring.h`.
-    pub const CODE: u8 = 14;
+    pub const CODE: u8 = opcodes::ASYNC_CANCEL;
 
     /// A cancel of the operation whose entry has this `user_data`.
     pub fn new(user_data: u64) -> AsyncCancel

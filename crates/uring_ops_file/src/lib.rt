@@ -6,6 +6,7 @@
 #![tactic(auto)]
 
 mod cancels;
+mod marks;
 mod nop;
 mod opens;
 mod polls;

@@ -2,6 +2,7 @@
 
 ghost use Rattle.std.specs.Prelude.{◌≡◌};
 
+use uring_base::opcodes;
 use uring_base::squeue::Entry;
 
 /// Does nothing, and answers 0.
@@ -12,7 +13,7 @@ impl Nop {
     ghost use Rattle.uring_ops_file.specs.Rows.{new_nop, nop_words};
 
     /// `IORING_OP_NOP` of `linux/io_uring.h`.
-    pub const CODE: u8 = 0;
+    pub const CODE: u8 = opcodes::NOP;
 
     /// A Nop.
     pub fn new() -> Nop

@@ -2,6 +2,7 @@
 
 ghost use Rattle.std.specs.Prelude.{◌≡◌, ◌+◌};
 
+use uring_base::opcodes;
 use uring_base::squeue::Entry;
 use uring_base::types::{Fd, Target, UseTarget};
 use uring_types::DestinationSlot;
@@ -22,7 +23,7 @@ impl OpenAt {
     ghost use Rattle.uring_ops_file.specs.Rows.{new_open_at, open_at_words};
 
     /// `IORING_OP_OPENAT` of `linux/io_uring.h`.
-    pub const CODE: u8 = 18;
+    pub const CODE: u8 = opcodes::OPENAT;
 
     /// An opening for reading of the file that the number `pathname` names, seen from the directory
     /// `dirfd`.
@@ -86,10 +87,10 @@ impl Close {
     ghost use Rattle.uring_ops_file.specs.Rows.{CanClose, new_close, close_words};
 
     /// `IORING_OP_CLOSE` of `linux/io_uring.h`.
-    pub const CODE: u8 = 19;
+    pub const CODE: u8 = opcodes::CLOSE;
 
-    /// A closing of `fd`. The index 4294967295 can't be closed, since a registered file stands in
-    /// the entry by its index plus 1.
+    /// A closing of `fd`. The greatest index can't be closed, since a registered file stands in the
+    /// entry by its index plus 1.
     pub fn new<T: UseTarget>(fd: T) -> Close
         requires { CanClose (T.target_of fd) }
         ensures { result ≡ new_close (T.target_of fd) }

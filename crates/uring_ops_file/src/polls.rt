@@ -2,6 +2,8 @@
 
 ghost use Rattle.std.specs.Prelude.{◌≡◌};
 
+use crate::marks::POLL_ADD_MULTI;
+use uring_base::opcodes;
 use uring_base::squeue::Entry;
 use uring_base::types::{Target, UseTarget};
 
@@ -19,7 +21,7 @@ impl PollAdd {
     ghost use Rattle.uring_ops_file.specs.Rows.{new_poll_add, poll_add_words};
 
     /// `IORING_OP_POLL_ADD` of `linux/io_uring.h`.
-    pub const CODE: u8 = 6;
+    pub const CODE: u8 = opcodes::POLL_ADD;
 
     /// A wait until `fd` is ready for one of `flags`, which are `POLL` bits of `poll.h`.
     pub fn new<T: UseTarget>(fd: T, flags: u32) -> PollAdd
@@ -45,7 +47,7 @@ impl PollAdd {
         ensures { result ≡ poll_add_words self }
     {
         Entry {
-            len: u32::from(self.multi),
+            len: if self.multi { POLL_ADD_MULTI } else { 0 },
             op: self.flags,
             ..Entry::blank(PollAdd::CODE)
         }
@@ -64,7 +66,7 @@ impl PollRemove {
     ghost use Rattle.uring_ops_file.specs.Rows.{new_poll_remove, poll_remove_words};
 
     /// `IORING_OP_POLL_REMOVE` of `linux/io_uring.h`.
-    pub const CODE: u8 = 7;
+    pub const CODE: u8 = opcodes::POLL_REMOVE;
 
     /// A removal of the poll whose entry has this `user_data`.
     pub fn new(user_data: u64) -> PollRemove

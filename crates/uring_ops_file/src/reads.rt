@@ -2,6 +2,7 @@
 
 ghost use Rattle.std.specs.Prelude.{◌≡◌};
 
+use uring_base::opcodes;
 use uring_base::squeue::Entry;
 use uring_base::types::{Target, UseTarget};
 
@@ -23,7 +24,7 @@ impl Readv {
     ghost use Rattle.uring_ops_file.specs.Rows.{new_readv, readv_words};
 
     /// `IORING_OP_READV` of `linux/io_uring.h`.
-    pub const CODE: u8 = 1;
+    pub const CODE: u8 = opcodes::READV;
 
     /// A Readv from the start of `fd` into the `len` buffers that the list with the number `iovec`
     /// names.
@@ -103,7 +104,7 @@ impl ReadFixed {
     ghost use Rattle.uring_ops_file.specs.Rows.{new_read_fixed, read_fixed_words};
 
     /// `IORING_OP_READ_FIXED` of `linux/io_uring.h`.
-    pub const CODE: u8 = 4;
+    pub const CODE: u8 = opcodes::READ_FIXED;
 
     /// A ReadFixed from the start of `fd` of `len` bytes at most, to the address `buf` within the
     /// registered buffer of the index `buf_index`.
@@ -176,7 +177,7 @@ impl Read {
     ghost use Rattle.uring_ops_file.specs.Rows.{new_read, read_words};
 
     /// `IORING_OP_READ` of `linux/io_uring.h`.
-    pub const CODE: u8 = 22;
+    pub const CODE: u8 = opcodes::READ;
 
     /// A Read from the start of `fd` into the loan with the number `buf`, of `len` bytes at most.
     pub fn new<T: UseTarget>(fd: T, buf: u64, len: u32) -> Read

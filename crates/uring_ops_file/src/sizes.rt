@@ -2,6 +2,7 @@
 
 ghost use Rattle.std.specs.Prelude.{◌≡◌};
 
+use uring_base::opcodes;
 use uring_base::squeue::Entry;
 use uring_base::types::{Target, UseTarget};
 
@@ -19,7 +20,7 @@ impl Fallocate {
     ghost use Rattle.uring_ops_file.specs.Rows.{new_fallocate, fallocate_words};
 
     /// `IORING_OP_FALLOCATE` of `linux/io_uring.h`.
-    pub const CODE: u8 = 17;
+    pub const CODE: u8 = opcodes::FALLOCATE;
 
     /// A reservation of the first `len` bytes of `fd`.
     pub fn new<T: UseTarget>(fd: T, len: u64) -> Fallocate
@@ -73,7 +74,7 @@ impl Ftruncate {
     ghost use Rattle.uring_ops_file.specs.Rows.{new_ftruncate, ftruncate_words};
 
     /// `IORING_OP_FTRUNCATE` of `linux/io_uring.h`.
-    pub const CODE: u8 = 55;
+    pub const CODE: u8 = opcodes::FTRUNCATE;
 
     /// `fd` gets a length of `len` bytes.
     pub fn new<T: UseTarget>(fd: T, len: u64) -> Ftruncate

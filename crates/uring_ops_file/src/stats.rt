@@ -2,6 +2,7 @@
 
 ghost use Rattle.std.specs.Prelude.{◌≡◌};
 
+use uring_base::opcodes;
 use uring_base::squeue::Entry;
 use uring_base::types::Fd;
 
@@ -20,7 +21,7 @@ impl Statx {
     ghost use Rattle.uring_ops_file.specs.Rows.{new_statx, statx_words};
 
     /// `IORING_OP_STATX` of `linux/io_uring.h`.
-    pub const CODE: u8 = 21;
+    pub const CODE: u8 = opcodes::STATX;
 
     /// A question about the file that the number `pathname` names, seen from the directory `dirfd`.
     /// The answer is written to the record with the number `statxbuf`.

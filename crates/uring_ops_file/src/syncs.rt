@@ -3,6 +3,7 @@
 ghost use Rattle.std.specs.Prelude.{◌≡◌};
 
 use bitflags::Flags as _;
+use uring_base::opcodes;
 use uring_base::squeue::Entry;
 use uring_base::types::{FsyncFlags, Target, UseTarget};
 
@@ -20,7 +21,7 @@ impl Fsync {
     ghost use Rattle.uring_ops_file.specs.Rows.{new_fsync, fsync_words};
 
     /// `IORING_OP_FSYNC` of `linux/io_uring.h`.
-    pub const CODE: u8 = 3;
+    pub const CODE: u8 = opcodes::FSYNC;
 
     /// A sync of all that belongs to `fd`.
     pub fn new<T: UseTarget>(fd: T) -> Fsync
@@ -83,7 +84,7 @@ impl SyncFileRange {
     ghost use Rattle.uring_ops_file.specs.Rows.{new_sync_file_range, sync_file_range_words};
 
     /// `IORING_OP_SYNC_FILE_RANGE` of `linux/io_uring.h`.
-    pub const CODE: u8 = 8;
+    pub const CODE: u8 = opcodes::SYNC_FILE_RANGE;
 
     /// A sync of the first `len` bytes of `fd`. 0 is up to the end of the file.
     pub fn new<T: UseTarget>(fd: T, len: u32) -> SyncFileRange

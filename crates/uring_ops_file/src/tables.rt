@@ -2,6 +2,7 @@
 
 ghost use Rattle.std.specs.Prelude.{◌≡◌};
 
+use uring_base::opcodes;
 use uring_base::squeue::Entry;
 
 /// Puts other files into the table of registered files. Its result is how many it put in, or an
@@ -17,7 +18,7 @@ impl FilesUpdate {
     ghost use Rattle.uring_ops_file.specs.Rows.{new_files_update, files_update_words};
 
     /// `IORING_OP_FILES_UPDATE` of `linux/io_uring.h`.
-    pub const CODE: u8 = 20;
+    pub const CODE: u8 = opcodes::FILES_UPDATE;
 
     /// An update of the first `len` places by the list of descriptors with the number `fds`.
     pub fn new(fds: u64, len: u32) -> FilesUpdate

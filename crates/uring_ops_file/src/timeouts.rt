@@ -2,7 +2,9 @@
 
 ghost use Rattle.std.specs.Prelude.{◌≡◌};
 
+use crate::marks::TIMEOUT_UPDATE;
 use bitflags::Flags as _;
+use uring_base::opcodes;
 use uring_base::squeue::Entry;
 use uring_types::TimeoutFlags;
 
@@ -20,7 +22,7 @@ impl Timeout {
     ghost use Rattle.uring_ops_file.specs.Rows.{new_timeout, timeout_words};
 
     /// `IORING_OP_TIMEOUT` of `linux/io_uring.h`.
-    pub const CODE: u8 = 11;
+    pub const CODE: u8 = opcodes::TIMEOUT;
 
     /// A wait for the time that the number `timespec` names.
     pub fn new(timespec: u64) -> Timeout
@@ -74,7 +76,7 @@ impl TimeoutRemove {
     ghost use Rattle.uring_ops_file.specs.Rows.{new_timeout_remove, timeout_remove_words};
 
     /// `IORING_OP_TIMEOUT_REMOVE` of `linux/io_uring.h`.
-    pub const CODE: u8 = 12;
+    pub const CODE: u8 = opcodes::TIMEOUT_REMOVE;
 
     /// A removal of the timeout whose entry has this `user_data`.
     pub fn new(user_data: u64) -> TimeoutRemove
@@ -108,7 +110,7 @@ impl TimeoutUpdate {
     ghost use Rattle.uring_ops_file.specs.Rows.{new_timeout_update, timeout_update_words};
 
     /// `IORING_OP_TIMEOUT_REMOVE` of `linux/io_uring.h`.
-    pub const CODE: u8 = 12;
+    pub const CODE: u8 = opcodes::TIMEOUT_REMOVE;
 
     /// An update of the timeout whose entry has this `user_data`, to the time that the number
     /// `timespec` names.
@@ -129,8 +131,8 @@ impl TimeoutUpdate {
         TimeoutUpdate { flags, ..self }
     }
 
-    /// The entry, on no descriptor. `IORING_TIMEOUT_UPDATE`, whose value is 2, tells it from that
-    /// of a `TimeoutRemove`.
+    /// The entry, on no descriptor. `IORING_TIMEOUT_UPDATE` tells it from that of a
+    /// `TimeoutRemove`.
     pub fn build(self) -> Entry
         ensures { result ≡ timeout_update_words self }
     {
@@ -138,7 +140,7 @@ impl TimeoutUpdate {
             fd: -1,
             off: self.timespec,
             addr: self.user_data,
-            op: self.flags.bits() | 2,
+            op: self.flags.bits() | TIMEOUT_UPDATE,
             ..Entry::blank(TimeoutUpdate::CODE)
         }
     }
@@ -157,7 +159,7 @@ impl LinkTimeout {
     ghost use Rattle.uring_ops_file.specs.Rows.{new_link_timeout, link_timeout_words};
 
     /// `IORING_OP_LINK_TIMEOUT` of `linux/io_uring.h`.
-    pub const CODE: u8 = 15;
+    pub const CODE: u8 = opcodes::LINK_TIMEOUT;
 
     /// A bound of the time that the number `timespec` names.
     pub fn new(timespec: u64) -> LinkTimeout

@@ -2,6 +2,7 @@
 
 ghost use Rattle.std.specs.Prelude.{◌≡◌};
 
+use uring_base::opcodes;
 use uring_base::squeue::Entry;
 use uring_base::types::{Target, UseTarget};
 
@@ -23,7 +24,7 @@ impl Writev {
     ghost use Rattle.uring_ops_file.specs.Rows.{new_writev, writev_words};
 
     /// `IORING_OP_WRITEV` of `linux/io_uring.h`.
-    pub const CODE: u8 = 2;
+    pub const CODE: u8 = opcodes::WRITEV;
 
     /// A Writev to the start of `fd` from the `len` buffers that the list with the number `iovec`
     /// names.
@@ -107,7 +108,7 @@ impl WriteFixed {
     ghost use Rattle.uring_ops_file.specs.Rows.{new_write_fixed, write_fixed_words};
 
     /// `IORING_OP_WRITE_FIXED` of `linux/io_uring.h`.
-    pub const CODE: u8 = 5;
+    pub const CODE: u8 = opcodes::WRITE_FIXED;
 
     /// A WriteFixed to the start of `fd` of `len` bytes at most, from the address `buf` within the
     /// registered buffer of the index `buf_index`.
@@ -192,7 +193,7 @@ impl Write {
     ghost use Rattle.uring_ops_file.specs.Rows.{new_write, write_words};
 
     /// `IORING_OP_WRITE` of `linux/io_uring.h`.
-    pub const CODE: u8 = 23;
+    pub const CODE: u8 = opcodes::WRITE;
 
     /// A Write to the start of `fd` from the loan with the number `buf`, of `len` bytes at most.
     pub fn new<T: UseTarget>(fd: T, buf: u64, len: u32) -> Write

@@ -4,6 +4,7 @@ ghost use Rattle.std.specs.Prelude.{◌≡◌};
 
 use crate::marks::ACCEPT_MULTISHOT;
 use crate::slots::slot_word;
+use uring_base::opcodes;
 use uring_base::squeue::Entry;
 use uring_base::types::{Target, UseTarget};
 use uring_types::DestinationSlot;
@@ -24,7 +25,7 @@ impl Accept {
     ghost use Rattle.uring_ops_net.specs.Rows.{new_accept, accept_words};
 
     /// `IORING_OP_ACCEPT` of `linux/io_uring.h`.
-    pub const CODE: u8 = 13;
+    pub const CODE: u8 = opcodes::ACCEPT;
 
     /// An Accept on the listener `fd`. The peer's address goes to `addr` and its length to
     /// `addrlen`, where 0 is nowhere.
@@ -84,7 +85,7 @@ impl AcceptMulti {
     ghost use Rattle.uring_ops_net.specs.Rows.{new_accept_multi, accept_multi_words};
 
     /// `IORING_OP_ACCEPT` of `linux/io_uring.h`.
-    pub const CODE: u8 = 13;
+    pub const CODE: u8 = opcodes::ACCEPT;
 
     /// An AcceptMulti on the listener `fd`.
     pub fn new<T: UseTarget>(fd: T) -> AcceptMulti

@@ -2,9 +2,9 @@
 
 ghost use Rattle.std.specs.Prelude.{◌≡◌};
 ghost use Rattle.uring_base.specs.Words.{where_some};
-ghost use Rattle.uring_ops_net.specs.Marks.{cmd_fixed};
 
 use crate::marks::CMD_FIXED;
+use uring_base::opcodes;
 use uring_base::squeue::Entry;
 use uring_base::types::{Target, UseTarget};
 use uring_base::words::long_from;
@@ -25,7 +25,7 @@ impl UringCmd16 {
     ghost use Rattle.uring_ops_net.specs.Rows.{new_uring_cmd16, uring_cmd16_words};
 
     /// `IORING_OP_URING_CMD` of `linux/io_uring.h`.
-    pub const CODE: u8 = 46;
+    pub const CODE: u8 = opcodes::URING_CMD;
 
     /// A UringCmd16 to the file `fd`, with the code `cmd_op`.
     pub fn new<T: UseTarget>(fd: T, cmd_op: u32) -> UringCmd16
@@ -96,7 +96,7 @@ impl UringCmd80 {
     ghost use Rattle.uring_ops_net.specs.Rows.{new_uring_cmd80, uring_cmd80_words};
 
     /// `IORING_OP_URING_CMD` of `linux/io_uring.h`.
-    pub const CODE: u8 = 46;
+    pub const CODE: u8 = opcodes::URING_CMD;
 
     /// A UringCmd80 to the file `fd`, with the code `cmd_op`.
     pub fn new<T: UseTarget>(fd: T, cmd_op: u32) -> UringCmd80
@@ -156,7 +156,7 @@ impl UringCmd80 {
 
 // The mark of a command that works on a registered buffer.
 fn fixed_mark(buf_index: Option<u16>) -> u32
-    ensures { result ≡ where_some buf_index cmd_fixed }
+    ensures { result ≡ where_some buf_index CMD_FIXED }
 {
     if buf_index.is_some() { CMD_FIXED } else { 0 }
 }

@@ -2,6 +2,7 @@
 
 ghost use Rattle.std.specs.Prelude.{◌≡◌};
 
+use uring_base::opcodes;
 use uring_base::squeue::Entry;
 use uring_base::types::{Fd, Target, UseTarget};
 
@@ -19,7 +20,7 @@ impl EpollCtl {
     ghost use Rattle.uring_ops_net.specs.Rows.{new_epoll_ctl, epoll_ctl_words};
 
     /// `IORING_OP_EPOLL_CTL` of `linux/io_uring.h`.
-    pub const CODE: u8 = 29;
+    pub const CODE: u8 = opcodes::EPOLL_CTL;
 
     /// An EpollCtl on the instance `epfd` of the descriptor `fd`, with `op`, `EPOLL_CTL_` of
     /// `linux/eventpoll.h`, and the event at `ev`.
@@ -63,7 +64,7 @@ impl EpollWait {
     ghost use Rattle.uring_ops_net.specs.Rows.{new_epoll_wait, epoll_wait_words};
 
     /// `IORING_OP_EPOLL_WAIT` of `linux/io_uring.h`.
-    pub const CODE: u8 = 59;
+    pub const CODE: u8 = opcodes::EPOLL_WAIT;
 
     /// An EpollWait on the instance `fd` of at most `max_events` events, which go to `events`.
     pub fn new<T: UseTarget>(fd: T, events: u64, max_events: u32) -> EpollWait

@@ -3,6 +3,7 @@
 ghost use Rattle.std.specs.Prelude.{◌≡◌};
 
 use crate::marks::RECV_MULTISHOT;
+use uring_base::opcodes;
 use uring_base::squeue::{Entry, Flags};
 use uring_base::types::{Target, UseTarget};
 
@@ -20,7 +21,7 @@ impl SendMsg {
     ghost use Rattle.uring_ops_net.specs.Rows.{new_send_msg, send_msg_words};
 
     /// `IORING_OP_SENDMSG` of `linux/io_uring.h`.
-    pub const CODE: u8 = 9;
+    pub const CODE: u8 = opcodes::SENDMSG;
 
     /// A SendMsg on the socket `fd` of the message in the loan with the number `msg`.
     pub fn new<T: UseTarget>(fd: T, msg: u64) -> SendMsg
@@ -79,7 +80,7 @@ impl RecvMsg {
     ghost use Rattle.uring_ops_net.specs.Rows.{new_recv_msg, recv_msg_words};
 
     /// `IORING_OP_RECVMSG` of `linux/io_uring.h`.
-    pub const CODE: u8 = 10;
+    pub const CODE: u8 = opcodes::RECVMSG;
 
     /// A RecvMsg on the socket `fd` into the loan with the number `msg`.
     pub fn new<T: UseTarget>(fd: T, msg: u64) -> RecvMsg
@@ -148,7 +149,7 @@ impl RecvMsgMulti {
     ghost use Rattle.uring_ops_net.specs.Rows.{new_recv_msg_multi, recv_msg_multi_words};
 
     /// `IORING_OP_RECVMSG` of `linux/io_uring.h`.
-    pub const CODE: u8 = 10;
+    pub const CODE: u8 = opcodes::RECVMSG;
 
     /// A RecvMsgMulti on the socket `fd` into buffers of the group `buf_group`, under the header in
     /// the loan with the number `msg`.
@@ -212,7 +213,7 @@ impl SendMsgZc {
     ghost use Rattle.uring_ops_net.specs.Rows.{new_send_msg_zc, send_msg_zc_words};
 
     /// `IORING_OP_SENDMSG_ZC` of `linux/io_uring.h`.
-    pub const CODE: u8 = 48;
+    pub const CODE: u8 = opcodes::SENDMSG_ZC;
 
     /// A SendMsgZc on the socket `fd` of the message in the loan with the number `msg`.
     pub fn new<T: UseTarget>(fd: T, msg: u64) -> SendMsgZc

@@ -3,6 +3,7 @@
 ghost use Rattle.std.specs.Prelude.{◌≡◌};
 
 use crate::marks::{BUNDLE, RECV_MULTISHOT};
+use uring_base::opcodes;
 use uring_base::squeue::{Entry, Flags};
 use uring_base::types::{Target, UseTarget};
 
@@ -22,7 +23,7 @@ impl Recv {
     ghost use Rattle.uring_ops_net.specs.Rows.{new_recv, recv_words};
 
     /// `IORING_OP_RECV` of `linux/io_uring.h`.
-    pub const CODE: u8 = 27;
+    pub const CODE: u8 = opcodes::RECV;
 
     /// A Recv on the socket `fd` into the loan with the number `buf`, of `len` bytes at most.
     pub fn new<T: UseTarget>(fd: T, buf: u64, len: u32) -> Recv
@@ -91,7 +92,7 @@ impl RecvMulti {
     ghost use Rattle.uring_ops_net.specs.Rows.{new_recv_multi, recv_multi_words};
 
     /// `IORING_OP_RECV` of `linux/io_uring.h`.
-    pub const CODE: u8 = 27;
+    pub const CODE: u8 = opcodes::RECV;
 
     /// A RecvMulti on the socket `fd` into buffers of the group `buf_group`.
     pub fn new<T: UseTarget>(fd: T, buf_group: u16) -> RecvMulti
@@ -150,7 +151,7 @@ impl RecvBundle {
     ghost use Rattle.uring_ops_net.specs.Rows.{new_recv_bundle, recv_bundle_words};
 
     /// `IORING_OP_RECV` of `linux/io_uring.h`.
-    pub const CODE: u8 = 27;
+    pub const CODE: u8 = opcodes::RECV;
 
     /// A RecvBundle on the socket `fd` into buffers of the group `buf_group`.
     pub fn new<T: UseTarget>(fd: T, buf_group: u16) -> RecvBundle
@@ -200,7 +201,7 @@ impl RecvMultiBundle {
     ghost use Rattle.uring_ops_net.specs.Rows.{new_recv_multi_bundle, recv_multi_bundle_words};
 
     /// `IORING_OP_RECV` of `linux/io_uring.h`.
-    pub const CODE: u8 = 27;
+    pub const CODE: u8 = opcodes::RECV;
 
     /// A RecvMultiBundle on the socket `fd` into buffers of the group `buf_group`.
     pub fn new<T: UseTarget>(fd: T, buf_group: u16) -> RecvMultiBundle
@@ -251,7 +252,7 @@ impl RecvZc {
     ghost use Rattle.uring_ops_net.specs.Rows.{new_recv_zc, recv_zc_words};
 
     /// `IORING_OP_RECV_ZC` of `linux/io_uring.h`.
-    pub const CODE: u8 = 58;
+    pub const CODE: u8 = opcodes::RECV_ZC;
 
     /// A RecvZc on the socket `fd` of `len` bytes in all at most, where 0 is no limit.
     pub fn new<T: UseTarget>(fd: T, len: u32) -> RecvZc

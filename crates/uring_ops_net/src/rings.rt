@@ -3,6 +3,7 @@
 ghost use Rattle.std.specs.Prelude.{◌≡◌};
 
 use crate::marks::{FLAGS_PASS, SEND_FD};
+use uring_base::opcodes;
 use uring_base::squeue::Entry;
 use uring_base::types::{Fd, Fixed};
 use uring_types::DestinationSlot;
@@ -22,7 +23,7 @@ impl MsgRingData {
     ghost use Rattle.uring_ops_net.specs.Rows.{new_msg_ring_data, msg_ring_data_words};
 
     /// `IORING_OP_MSG_RING` of `linux/io_uring.h`.
-    pub const CODE: u8 = 40;
+    pub const CODE: u8 = opcodes::MSG_RING;
 
     /// A MsgRingData to the ring `ring_fd`, whose completion gets the result `res`, this
     /// `user_data` and, where they are given, these flags.
@@ -86,7 +87,7 @@ impl MsgRingSendFd {
     ghost use Rattle.uring_ops_net.specs.Rows.{new_msg_ring_send_fd, msg_ring_send_fd_words};
 
     /// `IORING_OP_MSG_RING` of `linux/io_uring.h`.
-    pub const CODE: u8 = 40;
+    pub const CODE: u8 = opcodes::MSG_RING;
 
     /// A MsgRingSendFd of the file `fixed_slot_src` to a slot of the ring `ring_fd`, whose
     /// completion gets this `user_data`.

@@ -3,6 +3,7 @@
 ghost use Rattle.std.specs.Prelude.{◌≡◌, ◌≤◌};
 
 use crate::marks::{BUNDLE, FIXED_BUF};
+use uring_base::opcodes;
 use uring_base::squeue::{Entry, Flags};
 use uring_base::types::{Target, UseTarget};
 
@@ -24,7 +25,7 @@ impl Send {
     ghost use Rattle.uring_ops_net.specs.Rows.{new_send, send_words};
 
     /// `IORING_OP_SEND` of `linux/io_uring.h`.
-    pub const CODE: u8 = 26;
+    pub const CODE: u8 = opcodes::SEND;
 
     /// A Send on the socket `fd` from the loan with the number `buf`, of `len` bytes at most.
     pub fn new<T: UseTarget>(fd: T, buf: u64, len: u32) -> Send
@@ -64,7 +65,7 @@ impl Send {
 
     /// The length of that address in bytes, which must fit 16 bits.
     pub fn dest_addr_len(self, dest_addr_len: u32) -> Send
-        requires { dest_addr_len ≤ 65535 }
+        requires { dest_addr_len ≤ u16.MAX }
         ensures { result ≡ record self { dest_addr_len = dest_addr_len } }
     {
         Send {
@@ -106,7 +107,7 @@ impl SendBundle {
     ghost use Rattle.uring_ops_net.specs.Rows.{new_send_bundle, send_bundle_words};
 
     /// `IORING_OP_SEND` of `linux/io_uring.h`.
-    pub const CODE: u8 = 26;
+    pub const CODE: u8 = opcodes::SEND;
 
     /// A SendBundle on the socket `fd` from the buffers of the group `buf_group`.
     pub fn new<T: UseTarget>(fd: T, buf_group: u16) -> SendBundle
@@ -171,7 +172,7 @@ impl SendZc {
     ghost use Rattle.uring_ops_net.specs.Rows.{new_send_zc, send_zc_words};
 
     /// `IORING_OP_SEND_ZC` of `linux/io_uring.h`.
-    pub const CODE: u8 = 47;
+    pub const CODE: u8 = opcodes::SEND_ZC;
 
     /// A SendZc on the socket `fd` from the loan with the number `buf`, of `len` bytes at most.
     pub fn new<T: UseTarget>(fd: T, buf: u64, len: u32) -> SendZc
@@ -206,7 +207,7 @@ impl SendZc {
 
     /// The length of that address in bytes, which must fit 16 bits.
     pub fn dest_addr_len(self, dest_addr_len: u32) -> SendZc
-        requires { dest_addr_len ≤ 65535 }
+        requires { dest_addr_len ≤ u16.MAX }
         ensures { result ≡ record self { dest_addr_len = dest_addr_len } }
     {
         SendZc {

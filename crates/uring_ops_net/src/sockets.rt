@@ -4,6 +4,7 @@ ghost use Rattle.std.specs.Prelude.{◌≡◌};
 
 use crate::marks::SET_SOCK_OPT;
 use crate::slots::slot_word;
+use uring_base::opcodes;
 use uring_base::squeue::Entry;
 use uring_base::types::{Target, UseTarget};
 use uring_types::DestinationSlot;
@@ -21,7 +22,7 @@ impl Connect {
     ghost use Rattle.uring_ops_net.specs.Rows.{new_connect, connect_words};
 
     /// `IORING_OP_CONNECT` of `linux/io_uring.h`.
-    pub const CODE: u8 = 16;
+    pub const CODE: u8 = opcodes::CONNECT;
 
     /// A Connect of the socket `fd` to the address in the loan with the number `addr`, of `addrlen`
     /// bytes.
@@ -61,7 +62,7 @@ impl Shutdown {
     ghost use Rattle.uring_ops_net.specs.Rows.{new_shutdown, shutdown_words};
 
     /// `IORING_OP_SHUTDOWN` of `linux/io_uring.h`.
-    pub const CODE: u8 = 34;
+    pub const CODE: u8 = opcodes::SHUTDOWN;
 
     /// A Shutdown of the socket `fd`. 0 stops receiving, 1 sending and 2 both: `SHUT_` of
     /// `linux/net.h`.
@@ -102,7 +103,7 @@ impl Socket {
     ghost use Rattle.uring_ops_net.specs.Rows.{new_socket, socket_words};
 
     /// `IORING_OP_SOCKET` of `linux/io_uring.h`.
-    pub const CODE: u8 = 45;
+    pub const CODE: u8 = opcodes::SOCKET;
 
     /// A Socket of the family `domain`, `AF_` of `linux/socket.h`, of the type `socket_type`,
     /// `SOCK_` of `linux/net.h`, and of that protocol, where 0 is the usual one.
@@ -164,7 +165,7 @@ impl SetSockOpt {
     ghost use Rattle.uring_ops_net.specs.Rows.{new_set_sock_opt, set_sock_opt_words};
 
     /// `IORING_OP_URING_CMD` of `linux/io_uring.h`.
-    pub const CODE: u8 = 46;
+    pub const CODE: u8 = opcodes::URING_CMD;
 
     /// A SetSockOpt of the option `optname`, `SO_` of `asm-generic/socket.h`, of that level, on the
     /// socket `fd`. The value is at `optval`, with `optlen` bytes.
@@ -224,7 +225,7 @@ impl Bind {
     ghost use Rattle.uring_ops_net.specs.Rows.{new_bind, bind_words};
 
     /// `IORING_OP_BIND` of `linux/io_uring.h`.
-    pub const CODE: u8 = 56;
+    pub const CODE: u8 = opcodes::BIND;
 
     /// A Bind of the socket `fd` to the address at `addr`, of `addrlen` bytes.
     pub fn new<T: UseTarget>(fd: T, addr: u64, addrlen: u32) -> Bind
@@ -263,7 +264,7 @@ impl Listen {
     ghost use Rattle.uring_ops_net.specs.Rows.{new_listen, listen_words};
 
     /// `IORING_OP_LISTEN` of `linux/io_uring.h`.
-    pub const CODE: u8 = 57;
+    pub const CODE: u8 = opcodes::LISTEN;
 
     /// A Listen on the socket `fd`, where up to `backlog` connections wait to be accepted.
     pub fn new<T: UseTarget>(fd: T, backlog: i32) -> Listen

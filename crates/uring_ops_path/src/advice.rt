@@ -2,6 +2,7 @@
 
 ghost use Rattle.std.specs.Prelude.{◌≡◌, ◌≤ℤ◌, pos};
 
+use uring_base::opcodes;
 use uring_base::squeue::Entry;
 use uring_base::types::{Target, UseTarget};
 
@@ -19,13 +20,13 @@ impl Fadvise {
     ghost use Rattle.uring_ops_path.specs.Rows.{new_fadvise, fadvise_words};
 
     /// `IORING_OP_FADVISE` of `linux/io_uring.h`.
-    pub const CODE: u8 = 24;
+    pub const CODE: u8 = opcodes::FADVISE;
 
     /// An advice on the first `len` bytes of `fd`, `POSIX_FADV_` of `fcntl.h`. The word for the
     /// length has 32 bits; 0 is up to the end of the file.
     pub fn new<T: UseTarget>(fd: T, len: i64, advice: i32) -> Fadvise
         requires not_negative { pos 0 ≤ℤ len }
-        requires fits_word { len ≤ℤ pos 0xffff_ffff }
+        requires fits_word { len ≤ℤ pos u32.MAX }
         ensures { result ≡ new_fadvise (T.target_of fd) len advice }
     {
         Fadvise {
@@ -70,13 +71,13 @@ impl Madvise {
     ghost use Rattle.uring_ops_path.specs.Rows.{new_madvise, madvise_words};
 
     /// `IORING_OP_MADVISE` of `linux/io_uring.h`.
-    pub const CODE: u8 = 25;
+    pub const CODE: u8 = opcodes::MADVISE;
 
     /// An advice on the `len` bytes from the address `addr` on, `MADV_` of `sys/mman.h`. The word
     /// for the length has 32 bits.
     pub fn new(addr: u64, len: i64, advice: i32) -> Madvise
         requires not_negative { pos 0 ≤ℤ len }
-        requires fits_word { len ≤ℤ pos 0xffff_ffff }
+        requires fits_word { len ≤ℤ pos u32.MAX }
         ensures { result ≡ new_madvise addr len advice }
     {
         Madvise {

@@ -2,6 +2,7 @@
 
 ghost use Rattle.std.specs.Prelude.{◌≡◌};
 
+use uring_base::opcodes;
 use uring_base::squeue::Entry;
 use uring_base::types::{Target, UseTarget};
 
@@ -20,7 +21,7 @@ impl FSetXattr {
     ghost use Rattle.uring_ops_path.specs.Rows.{new_f_set_xattr, f_set_xattr_words};
 
     /// `IORING_OP_FSETXATTR` of `linux/io_uring.h`.
-    pub const CODE: u8 = 41;
+    pub const CODE: u8 = opcodes::FSETXATTR;
 
     /// The attribute of `fd` whose name has the number `name` becomes the `len` bytes at the
     /// address `value`.
@@ -73,7 +74,7 @@ impl SetXattr {
     ghost use Rattle.uring_ops_path.specs.Rows.{new_set_xattr, set_xattr_words};
 
     /// `IORING_OP_SETXATTR` of `linux/io_uring.h`.
-    pub const CODE: u8 = 42;
+    pub const CODE: u8 = opcodes::SETXATTR;
 
     /// The attribute whose name has the number `name`, of the file that the number `path` names,
     /// becomes the `len` bytes at the address `value`.
@@ -125,7 +126,7 @@ impl FGetXattr {
     ghost use Rattle.uring_ops_path.specs.Rows.{new_f_get_xattr, f_get_xattr_words};
 
     /// `IORING_OP_FGETXATTR` of `linux/io_uring.h`.
-    pub const CODE: u8 = 43;
+    pub const CODE: u8 = opcodes::FGETXATTR;
 
     /// The attribute of `fd` whose name has the number `name` is told at the address `value`, where
     /// there is room for `len` bytes.
@@ -168,7 +169,7 @@ impl GetXattr {
     ghost use Rattle.uring_ops_path.specs.Rows.{new_get_xattr, get_xattr_words};
 
     /// `IORING_OP_GETXATTR` of `linux/io_uring.h`.
-    pub const CODE: u8 = 44;
+    pub const CODE: u8 = opcodes::GETXATTR;
 
     /// The attribute whose name has the number `name`, of the file that the number `path` names, is
     /// told at the address `value`, where there is room for `len` bytes.

@@ -2,6 +2,7 @@
 
 ghost use Rattle.std.specs.Prelude.{◌≡◌};
 
+use uring_base::opcodes;
 use uring_base::squeue::Entry;
 use uring_types::CancelBuilder;
 
@@ -17,7 +18,7 @@ impl AsyncCancel2 {
     ghost use Rattle.uring_ops_path.specs.Rows.{new_async_cancel2, async_cancel2_words};
 
     /// `IORING_OP_ASYNC_CANCEL` of `linux/io_uring.h`.
-    pub const CODE: u8 = 14;
+    pub const CODE: u8 = opcodes::ASYNC_CANCEL;
 
     /// A cancel of the operations that `builder` means.
     pub fn new(builder: CancelBuilder) -> AsyncCancel2

@@ -2,6 +2,7 @@
 
 ghost use Rattle.std.specs.Prelude.{◌≡◌};
 
+use uring_base::opcodes;
 use uring_base::squeue::Entry;
 
 /// Lends a group of buffers of one length, of which operations with `BUFFER_SELECT` take theirs.
@@ -19,7 +20,7 @@ impl ProvideBuffers {
     ghost use Rattle.uring_ops_path.specs.Rows.{new_provide_buffers, provide_buffers_words};
 
     /// `IORING_OP_PROVIDE_BUFFERS` of `linux/io_uring.h`.
-    pub const CODE: u8 = 31;
+    pub const CODE: u8 = opcodes::PROVIDE_BUFFERS;
 
     /// `nbufs` buffers of `len` bytes each, one behind the other from the address `addr` on, become
     /// the buffers `bid` and following of the group `bgid`.
@@ -62,7 +63,7 @@ impl RemoveBuffers {
     ghost use Rattle.uring_ops_path.specs.Rows.{new_remove_buffers, remove_buffers_words};
 
     /// `IORING_OP_REMOVE_BUFFERS` of `linux/io_uring.h`.
-    pub const CODE: u8 = 32;
+    pub const CODE: u8 = opcodes::REMOVE_BUFFERS;
 
     /// `nbufs` buffers at most come back from the group `bgid`.
     pub fn new(nbufs: u16, bgid: u16) -> RemoveBuffers

@@ -2,6 +2,7 @@
 
 ghost use Rattle.std.specs.Prelude.{◌≡◌};
 
+use uring_base::opcodes;
 use uring_base::squeue::Entry;
 use uring_base::types::{Fixed, Target};
 
@@ -17,7 +18,7 @@ impl FixedFdInstall {
     ghost use Rattle.uring_ops_path.specs.Rows.{new_fixed_fd_install, fixed_fd_install_words};
 
     /// `IORING_OP_FIXED_FD_INSTALL` of `linux/io_uring.h`.
-    pub const CODE: u8 = 54;
+    pub const CODE: u8 = opcodes::FIXED_FD_INSTALL;
 
     /// A descriptor for `fd`. `file_flags` are `IORING_FIXED_FD_` bits of `linux/io_uring.h`.
     pub fn new(fd: Fixed, file_flags: u32) -> FixedFdInstall

@@ -12,6 +12,7 @@ mod attributes;
 mod cancels;
 mod groups;
 mod installs;
+mod marks;
 mod names;
 mod opens;
 mod pipes;

@@ -2,6 +2,7 @@
 
 ghost use Rattle.std.specs.Prelude.{◌≡◌};
 
+use uring_base::opcodes;
 use uring_base::squeue::Entry;
 use uring_base::types::Fd;
 
@@ -20,7 +21,7 @@ impl RenameAt {
     ghost use Rattle.uring_ops_path.specs.Rows.{new_rename_at, rename_at_words};
 
     /// `IORING_OP_RENAMEAT` of `linux/io_uring.h`.
-    pub const CODE: u8 = 35;
+    pub const CODE: u8 = opcodes::RENAMEAT;
 
     /// The file that the number `oldpath` names, seen from `olddirfd`, gets the name with the
     /// number `newpath`, seen from `newdirfd`.
@@ -71,7 +72,7 @@ impl UnlinkAt {
     ghost use Rattle.uring_ops_path.specs.Rows.{new_unlink_at, unlink_at_words};
 
     /// `IORING_OP_UNLINKAT` of `linux/io_uring.h`.
-    pub const CODE: u8 = 36;
+    pub const CODE: u8 = opcodes::UNLINKAT;
 
     /// A removal of the name with the number `pathname`, seen from the directory `dirfd`.
     pub fn new(dirfd: Fd, pathname: u64) -> UnlinkAt
@@ -117,7 +118,7 @@ impl MkDirAt {
     ghost use Rattle.uring_ops_path.specs.Rows.{new_mk_dir_at, mk_dir_at_words};
 
     /// `IORING_OP_MKDIRAT` of `linux/io_uring.h`.
-    pub const CODE: u8 = 37;
+    pub const CODE: u8 = opcodes::MKDIRAT;
 
     /// A directory gets the name with the number `pathname`, seen from the directory `dirfd`.
     pub fn new(dirfd: Fd, pathname: u64) -> MkDirAt
@@ -163,7 +164,7 @@ impl SymlinkAt {
     ghost use Rattle.uring_ops_path.specs.Rows.{new_symlink_at, symlink_at_words};
 
     /// `IORING_OP_SYMLINKAT` of `linux/io_uring.h`.
-    pub const CODE: u8 = 38;
+    pub const CODE: u8 = opcodes::SYMLINKAT;
 
     /// A link to the path with the number `target` gets the name with the number `linkpath`, seen
     /// from the directory `newdirfd`.
@@ -205,7 +206,7 @@ impl LinkAt {
     ghost use Rattle.uring_ops_path.specs.Rows.{new_link_at, link_at_words};
 
     /// `IORING_OP_LINKAT` of `linux/io_uring.h`.
-    pub const CODE: u8 = 39;
+    pub const CODE: u8 = opcodes::LINKAT;
 
     /// The file that the number `oldpath` names, seen from `olddirfd`, gets the name with the
     /// number `newpath`, seen from `newdirfd`, too.

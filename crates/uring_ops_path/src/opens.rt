@@ -2,6 +2,8 @@
 
 ghost use Rattle.std.specs.Prelude.{◌≡◌};
 
+use crate::marks::OPEN_HOW_SIZE;
+use uring_base::opcodes;
 use uring_base::squeue::Entry;
 use uring_base::types::Fd;
 use uring_types::DestinationSlot;
@@ -21,7 +23,7 @@ impl OpenAt2 {
     ghost use Rattle.uring_ops_path.specs.Rows.{new_open_at2, open_at2_words};
 
     /// `IORING_OP_OPENAT2` of `linux/io_uring.h`.
-    pub const CODE: u8 = 28;
+    pub const CODE: u8 = opcodes::OPENAT2;
 
     /// An opening of the file that the number `pathname` names, seen from the directory `dirfd`, in
     /// the way that the record with the number `how` says: an `open_how` of `linux/openat2.h`.
@@ -43,7 +45,7 @@ impl OpenAt2 {
         OpenAt2 { file_index, ..self }
     }
 
-    /// The entry, on the directory. Its length is that of the record: three numbers of 64 bits.
+    /// The entry, on the directory. Its length is that of the record.
     pub fn build(self) -> Entry
         ensures { result ≡ open_at2_words self }
     {
@@ -51,7 +53,7 @@ impl OpenAt2 {
             fd: self.dirfd.0,
             off: self.how,
             addr: self.pathname,
-            len: 24,
+            len: OPEN_HOW_SIZE,
             idx: self.file_index.map_or(0, |slot| slot.kernel_index_arg()),
             ..Entry::blank(OpenAt2::CODE)
         }

@@ -1,8 +1,11 @@
 //! Pipes, and moves and copies through them.
 
 ghost use Rattle.std.specs.Prelude.{◌≡◌};
-ghost use Rattle.uring_base.specs.Targets.{number_of, registered_mark};
+ghost use Rattle.uring_base.specs.Targets.{number_of};
+ghost use Rattle.uring_ops_path.specs.Sources.{source_mark};
 
+use crate::marks::FD_IN_FIXED;
+use uring_base::opcodes;
 use uring_base::squeue::Entry;
 use uring_base::types::{Target, UseTarget};
 use uring_types::DestinationSlot;
@@ -24,7 +27,7 @@ impl Splice {
     ghost use Rattle.uring_ops_path.specs.Rows.{new_splice, splice_words};
 
     /// `IORING_OP_SPLICE` of `linux/io_uring.h`.
-    pub const CODE: u8 = 30;
+    pub const CODE: u8 = opcodes::SPLICE;
 
     /// A move of `len` bytes at most, from the place `off_in` of `fd_in` to the place `off_out` of
     /// `fd_out`. -1 is the place for a pipe, and a file's current position.
@@ -55,7 +58,7 @@ impl Splice {
     }
 
     /// The entry, on `fd_out`. A registered `fd_in` adds `SPLICE_F_FD_IN_FIXED` of
-    /// `linux/io_uring.h`, the highest bit, to the operation's flags.
+    /// `linux/io_uring.h` to the operation's flags.
     pub fn build(self) -> Entry
         ensures { result ≡ splice_words self }
     {
@@ -63,7 +66,7 @@ impl Splice {
             off: self.off_out.cast_unsigned(),
             addr: self.off_in.cast_unsigned(),
             len: self.len,
-            op: self.flags | registered_mark(self.fd_in),
+            op: self.flags | source_mark(self.fd_in),
             idx: number_of(self.fd_in),
             ..Entry::blank(Splice::CODE)
         }
@@ -86,7 +89,7 @@ impl Tee {
     ghost use Rattle.uring_ops_path.specs.Rows.{new_tee, tee_words};
 
     /// `IORING_OP_TEE` of `linux/io_uring.h`.
-    pub const CODE: u8 = 33;
+    pub const CODE: u8 = opcodes::TEE;
 
     /// A copy of `len` bytes at most, from the pipe `fd_in` to the pipe `fd_out`.
     pub fn new<T: UseTarget, U: UseTarget>(fd_in: T, fd_out: U, len: u32) -> Tee
@@ -108,13 +111,13 @@ impl Tee {
     }
 
     /// The entry, on `fd_out`. A registered `fd_in` adds `SPLICE_F_FD_IN_FIXED` of
-    /// `linux/io_uring.h`, the highest bit, to the operation's flags.
+    /// `linux/io_uring.h` to the operation's flags.
     pub fn build(self) -> Entry
         ensures { result ≡ tee_words self }
     {
         Entry {
             len: self.len,
-            op: self.flags | registered_mark(self.fd_in),
+            op: self.flags | source_mark(self.fd_in),
             idx: number_of(self.fd_in),
             ..Entry::blank(Tee::CODE)
         }
@@ -135,7 +138,7 @@ impl Pipe {
     ghost use Rattle.uring_ops_path.specs.Rows.{new_pipe, pipe_words};
 
     /// `IORING_OP_PIPE` of `linux/io_uring.h`.
-    pub const CODE: u8 = 62;
+    pub const CODE: u8 = opcodes::PIPE;
 
     /// A pipe whose reading end and writing end, in this order, are told at the address `fds`.
     pub fn new(fds: u64) -> Pipe
@@ -185,12 +188,12 @@ fn number_of(target: Target) -> u32
     }
 }
 
-// The bit that says of that word whether it is the index of a registered file.
-fn registered_mark(target: Target) -> u32
-    ensures { result ≡ registered_mark target }
+// The bit that says of a source's word that it is the index of a registered file.
+fn source_mark(target: Target) -> u32
+    ensures { result ≡ source_mark target }
 {
     match target {
         Target::Fd(_) => 0,
-        Target::Fixed(_) => 1 << 31,
+        Target::Fixed(_) => FD_IN_FIXED,
     }
 }

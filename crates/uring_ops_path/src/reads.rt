@@ -2,6 +2,7 @@
 
 ghost use Rattle.std.specs.Prelude.{◌≡◌};
 
+use uring_base::opcodes;
 use uring_base::squeue::{Entry, Flags};
 use uring_base::types::{Target, UseTarget};
 
@@ -20,7 +21,7 @@ impl ReadMulti {
     ghost use Rattle.uring_ops_path.specs.Rows.{new_read_multi, read_multi_words};
 
     /// `IORING_OP_READ_MULTISHOT` of `linux/io_uring.h`.
-    pub const CODE: u8 = 49;
+    pub const CODE: u8 = opcodes::READ_MULTISHOT;
 
     /// Reads from `fd` into buffers of the group `buf_group`, of `len` bytes at most each; 0 is the
     /// length of the buffer.
@@ -77,7 +78,7 @@ impl ReadvFixed {
     ghost use Rattle.uring_ops_path.specs.Rows.{new_readv_fixed, readv_fixed_words};
 
     /// `IORING_OP_READV_FIXED` of `linux/io_uring.h`.
-    pub const CODE: u8 = 60;
+    pub const CODE: u8 = opcodes::READV_FIXED;
 
     /// A ReadvFixed from the start of `fd` into the `len` parts that the list with the number
     /// `iovec` names, all within the registered buffer of the index `buf_index`.

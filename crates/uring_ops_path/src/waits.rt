@@ -2,6 +2,7 @@
 
 ghost use Rattle.std.specs.Prelude.{◌≡◌};
 
+use uring_base::opcodes;
 use uring_base::squeue::Entry;
 
 /// Waits until a child of this process changes its state, as `waitid` does. Its result is 0, or an
@@ -19,7 +20,7 @@ impl WaitId {
     ghost use Rattle.uring_ops_path.specs.Rows.{new_wait_id, wait_id_words};
 
     /// `IORING_OP_WAITID` of `linux/io_uring.h`.
-    pub const CODE: u8 = 50;
+    pub const CODE: u8 = opcodes::WAITID;
 
     /// A wait for a child that `idtype` and `id` name, `P_` of `linux/wait.h`, until a change that
     /// `options` name, `W` bits of the same.
@@ -80,7 +81,7 @@ impl FutexWait {
     ghost use Rattle.uring_ops_path.specs.Rows.{new_futex_wait, futex_wait_words};
 
     /// `IORING_OP_FUTEX_WAIT` of `linux/io_uring.h`.
-    pub const CODE: u8 = 51;
+    pub const CODE: u8 = opcodes::FUTEX_WAIT;
 
     /// A wait at the word with the address `futex` while it holds `val`, until a wake that has a
     /// bit of `mask`. `futex_flags` are `FUTEX2_` bits of `linux/futex.h`.
@@ -133,7 +134,7 @@ impl FutexWake {
     ghost use Rattle.uring_ops_path.specs.Rows.{new_futex_wake, futex_wake_words};
 
     /// `IORING_OP_FUTEX_WAKE` of `linux/io_uring.h`.
-    pub const CODE: u8 = 52;
+    pub const CODE: u8 = opcodes::FUTEX_WAKE;
 
     /// A wake of `val` waits at most at the word with the address `futex`, of those that have a bit
     /// of `mask`. `futex_flags` are `FUTEX2_` bits of `linux/futex.h`.
@@ -185,7 +186,7 @@ impl FutexWaitV {
     ghost use Rattle.uring_ops_path.specs.Rows.{new_futex_wait_v, futex_wait_v_words};
 
     /// `IORING_OP_FUTEX_WAITV` of `linux/io_uring.h`.
-    pub const CODE: u8 = 53;
+    pub const CODE: u8 = opcodes::FUTEX_WAITV;
 
     /// A wait at the `nr_futex` words that the list at the address `futexv` names, each a
     /// `futex_waitv` of `linux/futex.h`.

@@ -2,6 +2,7 @@
 
 ghost use Rattle.std.specs.Prelude.{◌≡◌};
 
+use uring_base::opcodes;
 use uring_base::squeue::Entry;
 use uring_base::types::{Target, UseTarget};
 
@@ -24,7 +25,7 @@ impl WritevFixed {
     ghost use Rattle.uring_ops_path.specs.Rows.{new_writev_fixed, writev_fixed_words};
 
     /// `IORING_OP_WRITEV_FIXED` of `linux/io_uring.h`.
-    pub const CODE: u8 = 61;
+    pub const CODE: u8 = opcodes::WRITEV_FIXED;
 
     /// A WritevFixed to the start of `fd` from the `len` parts that the list with the number
     /// `iovec` names, all within the registered buffer of the index `buf_index`.

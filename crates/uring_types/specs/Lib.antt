@@ -1,4 +1,3 @@
-pub mod Slots
 pub mod Cancel
 pub mod FlagBits
 pub mod New

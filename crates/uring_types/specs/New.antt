@@ -6,6 +6,7 @@ use Rattle.uring_types.specs.declared.time.Timespec.{Timespec}
 use Rattle.uring_types.specs.declared.open_how.OpenHow.{OpenHow}
 use Rattle.uring_types.specs.declared.futex.FutexWaitV.{FutexWaitV}
 use Rattle.uring_types.specs.declared.napi.Napi.{Napi}
+use Rattle.uring_types.specs.declared.napi.TheConstants.{TRACKING_DYNAMIC, TRACKING_STATIC, TRACKING_INACTIVE}
 use Rattle.uring_types.specs.declared.napi.NapiTracking.{NapiTracking}
 use Rattle.uring_types.specs.declared.napi.NapiTracking.TheVariants.{Dynamic, Static, Inactive}
 use Rattle.uring_types.specs.declared.buf_ring.BufRingEntry.{BufRingEntry}
@@ -28,13 +29,13 @@ abbrev pub new_futex_wait : FutexWaitV
 new_futex_wait = record { val = 0; uaddr = 0; flags = 0 }
 
 abbrev pub new_napi : Napi
-new_napi = record { busy_poll_timeout = 0; prefer_busy_poll = false; tracking = 0 }
+new_napi = record { busy_poll_timeout = 0; prefer_busy_poll = false; tracking = TRACKING_DYNAMIC }
 
 -- the number of a way of tracking
 abbrev pub tracking_code : NapiTracking → ℕ
-tracking_code Dynamic = 0
-tracking_code Static = 1
-tracking_code Inactive = 255
+tracking_code Dynamic = TRACKING_DYNAMIC
+tracking_code Static = TRACKING_STATIC
+tracking_code Inactive = TRACKING_INACTIVE
 
 abbrev pub new_buf_ring_entry : BufRingEntry
 new_buf_ring_entry = record { addr = 0; len = 0; bid = 0 }

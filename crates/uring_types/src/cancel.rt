@@ -1,12 +1,12 @@
 //! Which operations a cancel means.
 
-ghost use Rattle.std.specs.Prelude.{◌≡◌, bit_or};
+ghost use Rattle.std.specs.Prelude.{◌≡◌};
 
+use crate::cancel_flags::{ALL, ANY, FD, FD_FIXED};
 use std::marker::Model;
 use uring_base::types::{Target, UseTarget};
 
-/// The operation or operations that a cancel means, under the bits of the Linux io_uring header
-/// (`IORING_ASYNC_CANCEL_ALL` 1, `_FD` 2, `_ANY` 4, `_FD_FIXED` 8).
+/// The operation or operations that a cancel means, under the bits of `cancel_flags`.
 #[derive(Drop)]
 pub struct CancelBuilder {
     flags: u32,
@@ -23,14 +23,14 @@ impl Model for CancelBuilder {
 }
 
 impl CancelBuilder {
-    ghost use Rattle.uring_types.specs.Cancel.{any_operation, on_target, target_word, with_user_data};
+    ghost use Rattle.uring_types.specs.Cancel.{all_that_fit, any_operation, on_target, target_word, with_user_data};
 
     /// Any operation.
     pub fn any() -> CancelBuilder
         ensures { result ≡ any_operation }
     {
         CancelBuilder {
-            flags: 4,
+            flags: ANY,
             user_data: None,
             fd: None,
         }
@@ -54,8 +54,8 @@ impl CancelBuilder {
         let target = fd.target();
         CancelBuilder {
             flags: match target {
-                Target::Fd(_) => 2,
-                Target::Fixed(_) => 10,
+                Target::Fd(_) => FD,
+                Target::Fixed(_) => FD | FD_FIXED,
             },
             user_data: None,
             fd: Some(target),
@@ -64,9 +64,9 @@ impl CancelBuilder {
 
     /// All operations that fit, and not the first alone.
     pub fn all(mut self) -> CancelBuilder
-        ensures { result ≡ record self { flags = bit_or self.flags 1 } }
+        ensures { result ≡ all_that_fit self }
     {
-        self.flags |= 1;
+        self.flags |= ALL;
         self
     }
 

@@ -30,11 +30,13 @@ impl CloneBuffersFlags {
 }
 
 impl bitflags::Flags for CloneBuffersFlags {
+    ghost use Rattle.uring_types.specs.declared.clone_flags.TheConstants.CloneBuffersFlags.{SRC_REGISTERED, DST_REPLACE};
+
     type Bits = u32;
 
     ghost exact = { ⊤ };
 
-    ghost table = { (codes "SRC_REGISTERED", 1) ∷ (codes "DST_REPLACE", 2) ∷ [] };
+    ghost table = { (codes "SRC_REGISTERED", SRC_REGISTERED.0) ∷ (codes "DST_REPLACE", DST_REPLACE.0) ∷ [] };
 
     ghost set_of = { λ flags. flags.0 };
 

@@ -4,6 +4,7 @@
 
 mod buf_ring;
 mod cancel;
+pub mod cancel_flags;
 mod clone_flags;
 mod futex;
 mod messages;
@@ -18,10 +19,10 @@ pub use buf_ring::BufRingEntry;
 pub use cancel::CancelBuilder;
 pub use clone_flags::CloneBuffersFlags;
 pub use futex::FutexWaitV;
-pub use messages::RecvMsgOut;
-pub use napi::{Napi, NapiTracking};
+pub use messages::{MESSAGE_HEADER_LEN, MSG_CTRUNC, MSG_TRUNC, RecvMsgOut};
+pub use napi::{Napi, NapiTracking, TRACKING_DYNAMIC, TRACKING_INACTIVE, TRACKING_STATIC};
 pub use open_how::OpenHow;
-pub use slots::DestinationSlot;
+pub use slots::{ANY_SLOT, DestinationSlot, MAX_SLOT};
 pub use submit_args::SubmitArgs;
 pub use time::Timespec;
 pub use timeout_flags::TimeoutFlags;

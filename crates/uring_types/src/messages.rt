@@ -1,9 +1,18 @@
 //! A received message with its header.
 
 ghost use Rattle.std.specs.Prelude.{◌≡◌, ◌+◌, ◌<◌, ◌↔◌, length, IfOk, IsErr, IsTrue};
-ghost use Rattle.uring_base.specs.FlagBits.{has_bit};
+ghost use Rattle.uring_base.specs.FlagBits.{has_bits};
 
 use uring_base::words::word_from;
+
+/// The flag of a message whose control data were cut, of `sys/socket.h`.
+pub const MSG_CTRUNC: u32 = 8;
+
+/// The flag of a message whose payload was cut, of `sys/socket.h`.
+pub const MSG_TRUNC: u32 = 32;
+
+/// How many bytes the header of a message has.
+pub const MESSAGE_HEADER_LEN: usize = 16;
 
 /// A message as it lies in a buffer that an operation received into: a header of four numbers of
 /// 32 bits, a field for the sender's name, a field for control data, and the payload. The lengths
@@ -21,16 +30,16 @@ pub struct RecvMsgOut<'a> {
 }
 
 impl<'a> RecvMsgOut<'a> {
-    ghost use Rattle.uring_types.specs.Messages.{header_len, AreInOrder, IsMessage};
+    ghost use Rattle.uring_types.specs.Messages.{AreInOrder, IsMessage};
 
     /// The message in a buffer whose fields for the name and for control data have these lengths.
     /// It is refused where the buffer ends before the payload's place.
     pub fn parse(buffer: &'a [u8], name_len: u32, control_len: usize) -> Result<RecvMsgOut<'a>, ()>
-        ensures refused { IsErr result ↔ (length buffer.now < header_len + name_len + control_len) }
+        ensures refused { IsErr result ↔ (length buffer.now < MESSAGE_HEADER_LEN + name_len + control_len) }
         ensures parts { IfOk result (λ message. IsMessage buffer.now name_len control_len message) }
         ensures places { IfOk result (λ _. AreInOrder buffer.now name_len control_len) }
     {
-        let control_start = 16 + name_len as usize;
+        let control_start = MESSAGE_HEADER_LEN + name_len as usize;
         if buffer.len() < control_start || buffer.len() - control_start < control_len {
             return Err(());
         }
@@ -38,11 +47,11 @@ impl<'a> RecvMsgOut<'a> {
         let name_word = word_from(buffer, 0);
         let control_word = word_from(buffer, 4);
         let payload_word = word_from(buffer, 8);
-        let name_end = 16 + name_word.min(name_len) as usize;
+        let name_end = MESSAGE_HEADER_LEN + name_word.min(name_len) as usize;
         let control_end = control_start + (control_word as usize).min(control_len);
         let payload_end = payload_start + (payload_word as usize).min(buffer.len() - payload_start);
         Ok(RecvMsgOut {
-            name: &buffer[16..name_end],
+            name: &buffer[MESSAGE_HEADER_LEN..name_end],
             control: &buffer[control_start..control_end],
             payload: &buffer[payload_start..payload_end],
             name_room: name_len,
@@ -109,17 +118,17 @@ impl<'a> RecvMsgOut<'a> {
         self.name_len > self.name_room
     }
 
-    /// Whether control data were cut, as the message's flags say (`MSG_CTRUNC`, the bit of value 8).
+    /// Whether control data were cut, as the message's flags say (`MSG_CTRUNC`).
     pub fn is_control_data_truncated(&self) -> bool
-        ensures { result ≡ has_bit self.now.flags 8 }
+        ensures { result ≡ has_bits self.now.flags MSG_CTRUNC }
     {
-        self.flags / 8 % 2 == 1
+        self.flags & MSG_CTRUNC == MSG_CTRUNC
     }
 
-    /// Whether the payload was cut, as the message's flags say (`MSG_TRUNC`, the bit of value 32).
+    /// Whether the payload was cut, as the message's flags say (`MSG_TRUNC`).
     pub fn is_payload_truncated(&self) -> bool
-        ensures { result ≡ has_bit self.now.flags 32 }
+        ensures { result ≡ has_bits self.now.flags MSG_TRUNC }
     {
-        self.flags / 32 % 2 == 1
+        self.flags & MSG_TRUNC == MSG_TRUNC
     }
 }

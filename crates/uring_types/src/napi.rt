@@ -3,8 +3,16 @@
 ghost use Rattle.std.specs.Prelude.{◌≡◌};
 ghost use Rattle.uring_types.specs.New.{new_napi, tracking_code};
 
-/// How a partner finds the devices that it polls, under the numbers of the Linux io_uring header
-/// (`IO_URING_NAPI_TRACKING_DYNAMIC` 0, `_STATIC` 1, `_INACTIVE` 255).
+/// The number of tracking by the sockets in use (`IO_URING_NAPI_TRACKING_DYNAMIC`).
+pub const TRACKING_DYNAMIC: u32 = 0;
+
+/// The number of tracking by a list (`IO_URING_NAPI_TRACKING_STATIC`).
+pub const TRACKING_STATIC: u32 = 1;
+
+/// The number of no tracking (`IO_URING_NAPI_TRACKING_INACTIVE`).
+pub const TRACKING_INACTIVE: u32 = 255;
+
+/// How a partner finds the devices that it polls.
 #[derive(Clone, Copy, PartialEq, Eq)]
 pub enum NapiTracking {
     /// By the sockets that the ring's operations use.
@@ -32,7 +40,7 @@ impl Napi {
         Napi {
             busy_poll_timeout: 0,
             prefer_busy_poll: false,
-            tracking: 0,
+            tracking: TRACKING_DYNAMIC,
         }
     }
 
@@ -61,9 +69,9 @@ impl Napi {
         ensures { result ≡ record self { tracking = tracking_code strategy } }
     {
         let tracking = match strategy {
-            NapiTracking::Dynamic => 0,
-            NapiTracking::Static => 1,
-            NapiTracking::Inactive => 255,
+            NapiTracking::Dynamic => TRACKING_DYNAMIC,
+            NapiTracking::Static => TRACKING_STATIC,
+            NapiTracking::Inactive => TRACKING_INACTIVE,
         };
         Napi { tracking, ..self }
     }

@@ -1,7 +1,7 @@
 use crate::{
-    BufRingEntry, CancelBuilder, CloneBuffersFlags, DestinationSlot, Fd, Fixed, FsyncFlags,
-    FutexWaitV, IORING_ZCRX_AREA_MASK, IORING_ZCRX_AREA_SHIFT, Napi, NapiTracking, OpenHow,
-    RecvMsgOut, SubmitArgs, Target, TimeoutFlags, Timespec, UseTarget,
+    CancelBuilder, CloneBuffersFlags, DestinationSlot, Fd, Fixed, FsyncFlags,
+    IORING_ZCRX_AREA_MASK, IORING_ZCRX_AREA_SHIFT, Napi, NapiTracking, RecvMsgOut, Target,
+    TimeoutFlags, Timespec, UseTarget,
 };
 use bitflags::Flags;
 use std::time::Duration;
@@ -63,30 +63,25 @@ fn times(rt: HostRuntime) {
     assert_eq!(rt; time.seconds(), 7);
     assert_eq!(rt; time.nanos(), 4294967295);
     assert_eq!(rt; Timespec::default().seconds(), 0);
-    let args = SubmitArgs::new().timespec(time).min_wait_usec(9).sigmask(0);
-    assert_eq!(rt; args.timespec.map(|time| time.seconds()), Some(7));
-    assert_eq!(rt; args.min_wait_usec, 9);
-    assert_eq!(rt; args.sigmask, Some(0));
-    assert_eq!(rt; SubmitArgs::default().sigmask, None);
-    assert!(rt; SubmitArgs::default().timespec.is_none());
 }
 
-/// A message whose name is longer than its field, and the same buffer without the message's end.
+/// A message whose name is longer than its field and whose control data were cut, and the same
+/// buffer without the message's end.
 #[test]
 fn messages(rt: HostRuntime) {
-    let buffer = b"\x05\0\0\0\0\0\0\0\x03\0\0\0\0\0\0\0nameabc".as_slice();
+    let buffer = b"\x05\0\0\0\0\0\0\0\x03\0\0\0\x08\0\0\0nameabc".as_slice();
     match RecvMsgOut::parse(buffer, 4, 0) {
         Ok(message) => {
             assert_eq!(rt; message.name_data(), b"name".as_slice());
             assert!(rt; message.is_name_data_truncated());
             assert_eq!(rt; message.control_data(), b"".as_slice());
-            assert!(rt; !message.is_control_data_truncated());
+            assert!(rt; message.is_control_data_truncated());
             assert_eq!(rt; message.payload_data(), b"abc".as_slice());
             assert!(rt; !message.is_payload_truncated());
             assert_eq!(rt; message.incoming_name_len(), 5);
             assert_eq!(rt; message.incoming_control_len(), 0);
             assert_eq!(rt; message.incoming_payload_len(), 3);
-            assert_eq!(rt; message.flags(), 0);
+            assert_eq!(rt; message.flags(), 8);
         }
         Err(()) => assert!(rt; false),
     }
@@ -95,20 +90,20 @@ fn messages(rt: HostRuntime) {
     assert!(rt; RecvMsgOut::parse(buffer, 4, usize::MAX).is_err());
 }
 
-/// A message of which less came than its fields hold, with both marks of truncation.
+/// A message of which less came than its fields hold, and whose payload was cut.
 #[test]
 fn short_messages(rt: HostRuntime) {
-    let buffer = b"\x01\0\0\0\x02\0\0\0\x09\0\0\0\x28\0\0\0n___cd___pay".as_slice();
+    let buffer = b"\x01\0\0\0\x02\0\0\0\x09\0\0\0\x20\0\0\0n___cd___pay".as_slice();
     match RecvMsgOut::parse(buffer, 4, 5) {
         Ok(message) => {
             assert_eq!(rt; message.name_data(), b"n".as_slice());
             assert!(rt; !message.is_name_data_truncated());
             assert_eq!(rt; message.control_data(), b"cd".as_slice());
-            assert!(rt; message.is_control_data_truncated());
+            assert!(rt; !message.is_control_data_truncated());
             assert_eq!(rt; message.payload_data(), b"pay".as_slice());
             assert!(rt; message.is_payload_truncated());
             assert_eq!(rt; message.incoming_payload_len(), 9);
-            assert_eq!(rt; message.flags(), 40);
+            assert_eq!(rt; message.flags(), 32);
         }
         Err(()) => assert!(rt; false),
     }
@@ -139,36 +134,13 @@ fn names_of_flags(rt: HostRuntime) {
     assert_eq!(rt; FsyncFlags::from_bits_retain(8).bits(), 8);
 }
 
-/// The settings of polling, of an opening, and of a futex that is waited for.
+/// The numbers of the ways of tracking, and the mask of a memory area.
 #[test]
-fn settings(rt: HostRuntime) {
-    let napi = Napi::default()
-        .set_busy_poll_timeout(50)
-        .set_prefer_busy_poll(true);
-    assert_eq!(rt; napi.busy_poll_timeout(), 50);
-    assert!(rt; napi.prefer_busy_poll());
+fn numbers_of_the_header(rt: HostRuntime) {
+    let napi = Napi::default();
     assert_eq!(rt; napi.tracking, 0);
     assert_eq!(rt; napi.set_tracking(NapiTracking::Static).tracking, 1);
     assert_eq!(rt; napi.set_tracking(NapiTracking::Inactive).tracking, 255);
     assert_eq!(rt; napi.set_tracking(NapiTracking::Dynamic).tracking, 0);
-    assert!(rt; NapiTracking::Static != NapiTracking::Inactive);
-    let how = OpenHow::new().flags(1).mode(2).resolve(3);
-    assert_eq!(rt;
-        (how.get_flags(), how.get_mode(), how.get_resolve()),
-        (1, 2, 3)
-    );
-    let wait = FutexWaitV::new().val(4).uaddr(5).flags(6);
-    assert_eq!(rt;
-        (wait.get_val(), wait.get_uaddr(), wait.get_flags()),
-        (4, 5, 6)
-    );
-    assert_eq!(rt; OpenHow::default().get_mode(), 0);
-    assert_eq!(rt; FutexWaitV::default().get_val(), 0);
-    let mut buffer = BufRingEntry::new();
-    assert_eq!(rt; (buffer.addr(), buffer.len(), buffer.bid()), (0, 0, 0));
-    buffer.set_addr(7);
-    buffer.set_len(8);
-    buffer.set_bid(9);
-    assert_eq!(rt; (buffer.addr(), buffer.len(), buffer.bid()), (7, 8, 9));
     assert_eq!(rt; IORING_ZCRX_AREA_MASK >> IORING_ZCRX_AREA_SHIFT, 0xffff);
 }

@@ -36,16 +36,18 @@ impl TimeoutFlags {
 }
 
 impl bitflags::Flags for TimeoutFlags {
+    ghost use Rattle.uring_types.specs.declared.timeout_flags.TheConstants.TimeoutFlags.{ABS, BOOTTIME, REALTIME, LINK_TIMEOUT_UPDATE, ETIME_SUCCESS, MULTISHOT};
+
     type Bits = u32;
 
     ghost exact = { ⊤ };
 
-    ghost table = { (codes "ABS", 1)
-        ∷ (codes "BOOTTIME", 4)
-        ∷ (codes "REALTIME", 8)
-        ∷ (codes "LINK_TIMEOUT_UPDATE", 16)
-        ∷ (codes "ETIME_SUCCESS", 32)
-        ∷ (codes "MULTISHOT", 64)
+    ghost table = { (codes "ABS", ABS.0)
+        ∷ (codes "BOOTTIME", BOOTTIME.0)
+        ∷ (codes "REALTIME", REALTIME.0)
+        ∷ (codes "LINK_TIMEOUT_UPDATE", LINK_TIMEOUT_UPDATE.0)
+        ∷ (codes "ETIME_SUCCESS", ETIME_SUCCESS.0)
+        ∷ (codes "MULTISHOT", MULTISHOT.0)
         ∷ [] };
 
     ghost set_of = { λ flags. flags.0 };
