@@ -8,7 +8,7 @@ use Rattle.uring_base.specs.declared.events.Taken.{Taken}
 use Rattle.uring_base.specs.declared.events.Completion.{Completion}
 use Rattle.ring_traits.specs.Lists.{Lists, Becomes}
 use Rattle.rent_engine.specs.declared.state.Poll.TheVariants.{Ready, Pending}
-use Rattle.rent_engine.specs.declared.one_op.Offer.{Offer}
+use Rattle.rent_engine.specs.declared.one_op.Request.{Request}
 use Rattle.rent_engine.specs.declared.one_op.Stage.{Stage}
 use Rattle.rent_engine.specs.declared.one_op.Stage.TheVariants.{Offers, Over}
 use Rattle.rent_engine.specs.declared.one_op.OneAnswer.TheVariants.{InUse, NoMemory}
@@ -30,14 +30,14 @@ Offered-none used lists room waiting used_none ring after e = record {
   seen = ap waiting e;
 }
 
-module _ (offer : Offer) (n : ℕ) (ops after : Ops) (buf : Option Buf) (its : IsItsNumber offer.number ops n) (same : after ≡ ops) (back : buf ≡ offer.buf) where
-  pub held : false ≡ knows ops n → OneStep (Offers offer) ops [] Pending after (Offers (record offer { buf = buf }))
-  held unknown = (n, its, inr (inl (record { unknown = sym unknown; entries = refl; operations = same; gives = refl; next = ap (λ b. Offers (record offer { buf = b })) back })))
+module _ (request : Request) (n : ℕ) (ops after : Ops) (buf : Option Buf) (its : IsItsNumber request.number ops n) (same : after ≡ ops) (back : buf ≡ request.buf) where
+  pub held : false ≡ knows ops n → OneStep (Offers request) ops [] Pending after (Offers (record request { buf = buf }))
+  held unknown = (n, its, inr (inl (record { unknown = sym unknown; entries = refl; operations = same; gives = refl; next = ap (λ b. Offers (record request { buf = b })) back })))
 
-  pub refused : (stage : Stage) → true ≡ knows ops n → stage ≡ Over → OneStep (Offers offer) ops [] (Ready (InUse buf)) after stage
+  pub refused : (stage : Stage) → true ≡ knows ops n → stage ≡ Over → OneStep (Offers request) ops [] (Ready (InUse buf)) after stage
   refused stage known over = (n, its, inr (inr (inl (record { known = sym known; entries = refl; operations = same; gives = ap (λ b. Ready (InUse b)) back; next = over }))))
 
-  pub lacking : (stage : Stage) → false ≡ knows ops n → stage ≡ Over → OneStep (Offers offer) ops [] (Ready (NoMemory buf)) after stage
+  pub lacking : (stage : Stage) → false ≡ knows ops n → stage ≡ Over → OneStep (Offers request) ops [] (Ready (NoMemory buf)) after stage
   lacking stage unknown over = (n, its, inr (inr (inr (record { unknown = sym unknown; entries = refl; operations = same; gives = ap (λ b. Ready (NoMemory b)) back; next = over }))))
 
 pub started-kept : (n : ℕ) (lent : Bool) (ops after : Ops) → after ≡ started n lent ops → KeepsInFlight ops after

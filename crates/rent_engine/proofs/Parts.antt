@@ -7,14 +7,14 @@ use Rattle.std.specs.Cmp.{nat_cmp_total, unsigned_tied}
 use Rattle.std.specs.FinMap.{FinMap, get, insert, remove, len, empty, get-remove}
 use Rattle.rent_engine.specs.declared.ops.Flight.{Flight}
 use Rattle.rent_engine.specs.declared.ops.OpDone.{OpDone}
-use Rattle.rent_engine.specs.declared.ops.Operation.{Operation}
-use Rattle.rent_engine.specs.declared.ops.Operation.TheVariants.{InFlight, Done}
+use Rattle.rent_engine.specs.declared.ops.Lifecycle.{Lifecycle}
+use Rattle.rent_engine.specs.declared.ops.Lifecycle.TheVariants.{InFlight, Done}
 use Rattle.rent_engine.specs.Kept.{flight_of, done_of, ops_of}
 use Rattle.rent_engine.specs.Ops.{no_ops, flight_at, done_at, knows, AreApart}
 use Rattle.rent_engine.proofs.Picks.{get-part, part-insert, part-remove, part-empty, part_few, nothing_out, len-taken, len-added, len-above}
 
 abbrev pub Table : Type 0
-Table = FinMap nat_cmp Operation
+Table = FinMap nat_cmp Lifecycle
 
 pub flight-at : (m : Table) (n : ℕ) → flight_at (ops_of m) n ≡ option_and_then flight_of (get m n)
 flight-at m n = get-part flight_of m n
@@ -22,7 +22,7 @@ flight-at m n = get-part flight_of m n
 pub done-at : (m : Table) (n : ℕ) → done_at (ops_of m) n ≡ option_and_then done_of (get m n)
 done-at m n = get-part done_of m n
 
-one_of : (o : Option Operation) → is_some o ≡ (is_some (option_and_then flight_of o) || is_some (option_and_then done_of o))
+one_of : (o : Option Lifecycle) → is_some o ≡ (is_some (option_and_then flight_of o) || is_some (option_and_then done_of o))
 one_of None = refl
 one_of (Some (InFlight flight)) = refl
 one_of (Some (Done done)) = refl
@@ -30,7 +30,7 @@ one_of (Some (Done done)) = refl
 pub knows-at : (m : Table) (n : ℕ) → is_some (get m n) ≡ knows (ops_of m) n
 knows-at m n = one_of (get m n) ∙ ap (λ o. is_some o || is_some (option_and_then done_of (get m n))) (sym (flight-at m n)) ∙ ap (λ o. is_some (flight_at (ops_of m) n) || is_some o) (sym (done-at m n))
 
-not_both : (o : Option Operation) → is_some (option_and_then flight_of o) ≡ true → option_and_then done_of o ≡ None
+not_both : (o : Option Lifecycle) → is_some (option_and_then flight_of o) ≡ true → option_and_then done_of o ≡ None
 not_both None is = refl
 not_both (Some (InFlight flight)) is = refl
 not_both (Some (Done done)) is = absurd (subst T (sym is) tt)
@@ -44,7 +44,7 @@ ops-empty m e = ap ops_of e ∙ (λ i. record { in_flight = part-empty flight_of
 pub few : (m : Table) → len (ops_of m).in_flight ≤ len m
 few m = part_few flight_of m
 
-none_known : (o : Option Operation) → is_some o ≡ false → (option_and_then flight_of o ≡ None) × (option_and_then done_of o ≡ None)
+none_known : (o : Option Lifecycle) → is_some o ≡ false → (option_and_then flight_of o ≡ None) × (option_and_then done_of o ≡ None)
 none_known None e = (refl, refl)
 none_known (Some x) e = absurd (subst T e tt)
 
@@ -66,7 +66,7 @@ module _ (m : Table) (n : ℕ) (flight : Flight) (unknown : knows (ops_of m) n �
   pub len-started : len (ops_of (insert m n (InFlight flight))).in_flight ≡ len (ops_of m).in_flight + 1
   len-started = ap len (part-insert flight_of m n (InFlight flight)) ∙ len-added (ops_of m).in_flight n flight (ap is_some (flight-at m n ∙ ap (option_and_then flight_of) (absent m n unknown)))
 
-known_in_flight : (o : Option Operation) → is_some (option_and_then flight_of o) ≡ true → is_some o ≡ true
+known_in_flight : (o : Option Lifecycle) → is_some (option_and_then flight_of o) ≡ true → is_some o ≡ true
 known_in_flight None e = e
 known_in_flight (Some x) e = refl
 

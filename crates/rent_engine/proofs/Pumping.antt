@@ -1,13 +1,13 @@
 -- Completions that are reaped and taken one after another.
-use Rattle.std.proofs.Common.{◌≡◌, ℕ, ◌+◌, ◌-◌, ◌≤◌, min, Bool, true, false, not, cond, ◌||◌, T, List, [], ◌∷◌, ◌++◌, length, count_by, Option, Some, None, is_some, IfSome, Result, Ok, Err, inl, inr, refl, sym, ap, ◌∙◌, subst, append_assoc, append-nil, length-append, arith}
+use Rattle.std.proofs.Common.{◌≡◌, ℕ, ◌+◌, ◌-◌, ◌^◌, ◌≤◌, min, Bool, true, false, not, cond, ◌||◌, T, List, [], ◌∷◌, ◌++◌, length, count_by, Option, Some, None, is_some, IfSome, Result, Ok, Err, inl, inr, refl, sym, ap, ◌∙◌, subst, append_assoc, append-nil, length-append, arith}
 use Rattle.std.proofs.lemmas.List.Sums.{fold-append}
 use Rattle.uring_base.specs.declared.events.Taken.{Taken}
 use Rattle.uring_base.specs.declared.events.Completion.{Completion}
 use Rattle.uring_base.specs.Completions.{is_more, is_final}
 use Rattle.ring_traits.specs.Lists.{Lists, Becomes, WhereTold, Reaps, all_published, free_of}
 use Rattle.rent_engine.specs.declared.ops.Step.{Step}
-use Rattle.rent_engine.specs.declared.ops.EngineFault.{EngineFault}
-use Rattle.rent_engine.specs.declared.ops.EngineFault.TheVariants.{Stranger, Fault}
+use Rattle.rent_engine.specs.declared.fault.EngineFault.{EngineFault}
+use Rattle.rent_engine.specs.declared.fault.EngineFault.TheVariants.{Stranger, Fault}
 use Rattle.rent_engine.specs.Ops.{Ops, step_of, is_stranger, completed, resolved, flight_at, Pumps}
 use Rattle.rent_engine.specs.Engines.{Reaped, Pumped, finals_in}
 
@@ -116,10 +116,10 @@ capped : (n m k : ℕ) (b : Bool) → n ≡ m + cond b 1 0 → min (min m k + co
 capped n m k true e = grind (arith, e)
 capped n m k false e = grind (arith, e)
 
-pub finals_more : (cs : List Completion) (c : Completion) (k next : ℕ) (b : Bool) → b ≡ is_final c.flags → k ≡ finals_in cs → next ≡ min (k + cond b 1 0) 4294967295 → next ≡ finals_in (cs ++ c ∷ [])
+pub finals_more : (cs : List Completion) (c : Completion) (k next : ℕ) (b : Bool) → b ≡ is_final c.flags → k ≡ finals_in cs → next ≡ min (k + cond b 1 0) (2 ^ 32 - 1) → next ≡ finals_in (cs ++ c ∷ [])
 finals_more cs c k next b final is e =
-    e ∙ ap (λ x. min (x + cond b 1 0) 4294967295) is ∙ ap (λ x. min (finals_in cs + cond x 1 0) 4294967295) final
-    ∙ capped _ _ 4294967295 (is_final c.flags) (count_more (λ d. is_final d.flags) cs c)
+    e ∙ ap (λ x. min (x + cond b 1 0) (2 ^ 32 - 1)) is ∙ ap (λ x. min (finals_in cs + cond x 1 0) (2 ^ 32 - 1)) final
+    ∙ capped _ _ (2 ^ 32 - 1) (is_final c.flags) (count_more (λ d. is_final d.flags) cs c)
 
 -- a pump's fault is never a partner's
 pub no_fault : (ops : Ops) (cs : List Completion) (after : Ops) (errno : ℕ) → Pumps ops cs after (Err (Fault errno)) → ⊥

@@ -7,7 +7,7 @@ use Rattle.uring_base.specs.declared.events.Completion.{Completion}
 use Rattle.uring_base.specs.Completions.{is_more, is_final}
 use Rattle.rent_engine.specs.declared.ops.Flight.{Flight}
 use Rattle.rent_engine.specs.declared.ops.OpDone.{OpDone}
-use Rattle.rent_engine.specs.declared.ops.EngineFault.TheVariants.{Stranger, Fault, NoMemory}
+use Rattle.rent_engine.specs.declared.fault.EngineFault.TheVariants.{Stranger, Fault, NoMemory}
 use Rattle.rent_engine.specs.Ops.{Ops, flight_at, done_at, knows, is_stranger, completed, resolved, resolved_as, outcome, AreApart}
 use Rattle.rent_engine.specs.Laws.{StaysInFlight, Lands, LeavesOnce, StartsApart, LandsApart, LeavesApart, StartsKnown, LandsKnown, LeavesKnown}
 

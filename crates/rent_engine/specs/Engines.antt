@@ -1,5 +1,5 @@
 -- What a contract sees of an engine, and what its calls do with the rings.
-use Rattle.std.specs.Prelude.{◌≡◌, ℕ, ◌+◌, ◌≤◌, min, Bool, true, false, refl, Option, Some, None, IfSome, Result, Ok, Err, List, [], ◌++◌, length, count_by}
+use Rattle.std.specs.Prelude.{◌≡◌, ℕ, ◌+◌, ◌-◌, ◌^◌, ◌≤◌, min, refl, Option, Some, None, IfSome, Result, List, [], ◌++◌, length, count_by}
 use Rattle.std.specs.Coded.{Coded, code_by, coded×, coded_ℕ}
 use Rattle.uring_base.specs.declared.squeue.Entry.{Entry}
 use Rattle.uring_base.specs.declared.buffer.Buf.{Buf}
@@ -11,11 +11,7 @@ use Rattle.uring_ops_file.specs.Rows.{new_async_cancel, async_cancel_words}
 use Rattle.ring_setup.specs.declared.parameters.Parameters.{Parameters}
 use Rattle.ring_setup.specs.contracts.parameters.Parameters as parameters
 use Rattle.ring_traits.specs.Lists.{Lists, Becomes, WhereTold, free_of, small}
-use Rattle.rent_engine.specs.declared.ops.OpKey.{OpKey}
-use Rattle.rent_engine.specs.declared.ops.StartFault.{StartFault}
-use Rattle.rent_engine.specs.declared.ops.StartFault.TheVariants.{KeyInUse, RingFull, NoMemory}
-use Rattle.rent_engine.specs.declared.ops.EngineFault.{EngineFault}
-use Rattle.rent_engine.specs.declared.ops.EngineFault.TheVariants as faults
+use Rattle.rent_engine.specs.declared.fault.EngineFault.{EngineFault}
 use Rattle.rent_engine.specs.Kept.{ops_code}
 use Rattle.rent_engine.specs.Ops.{Ops, Pumps}
 
@@ -34,12 +30,12 @@ loan_of n from None = None
 loan_of n from (Some buf) = Some (record { number = n; from = from; buf = buf })
 
 -- what is offered for an operation: its entry under its number, with its buffer lent
-abbrev pub asked : ℕ → Entry → ℕ → Option Buf → Taken
-asked n entry from buf = small (record entry { user_data = n }) (loan_of n from buf)
+abbrev pub offered_entry : ℕ → Entry → ℕ → Option Buf → Taken
+offered_entry n entry from buf = small (record entry { user_data = n }) (loan_of n from buf)
 
 -- what is offered for the cancel of an operation: the entry of its builder, without a loan
-abbrev pub asked_cancel : ℕ → ℕ → Taken
-asked_cancel target n = asked n (async_cancel_words (new_async_cancel target)) 0 None
+abbrev pub offered_cancel : ℕ → ℕ → Taken
+offered_cancel target n = offered_entry n (async_cancel_words (new_async_cancel target)) 0 None
 
 -- these entries were offered
 abbrev pub all_offered : List Taken → Lists → Lists
@@ -73,38 +69,4 @@ module _ {R : Type 0} (used : R → List Taken → List Completion → R → Typ
 
 -- how many are final, as far as 32 bits tell
 abbrev pub finals_in : List Completion → ℕ
-finals_in cs = min (count_by (λ c. is_final c.flags) cs) 4294967295
-
--- a fault of the partner
-abbrev pub is_fault : EngineFault → Bool
-is_fault (faults.Stranger n) = false
-is_fault (faults.Fault errno) = true
-is_fault faults.NoMemory = false
-
-abbrev pub ending : {T : Type 0} → Result T EngineFault → Result (Unit {0}) EngineFault
-ending (Ok _) = Ok tt
-ending (Err fault) = Err fault
-
-abbrev pub fault_buf : StartFault → Option Buf
-fault_buf (KeyInUse buf) = buf
-fault_buf (RingFull buf) = buf
-fault_buf (NoMemory buf) = buf
-
--- which refusal it is
-abbrev pub is_key_in_use : Result OpKey StartFault → Bool
-is_key_in_use (Ok key) = false
-is_key_in_use (Err (KeyInUse buf)) = true
-is_key_in_use (Err (RingFull buf)) = false
-is_key_in_use (Err (NoMemory buf)) = false
-
-abbrev pub is_ring_full : Result OpKey StartFault → Bool
-is_ring_full (Ok key) = false
-is_ring_full (Err (KeyInUse buf)) = false
-is_ring_full (Err (RingFull buf)) = true
-is_ring_full (Err (NoMemory buf)) = false
-
-abbrev pub is_no_memory : Result OpKey StartFault → Bool
-is_no_memory (Ok key) = false
-is_no_memory (Err (KeyInUse buf)) = false
-is_no_memory (Err (RingFull buf)) = false
-is_no_memory (Err (NoMemory buf)) = true
+finals_in cs = min (count_by (λ c. is_final c.flags) cs) (2 ^ 32 - 1)

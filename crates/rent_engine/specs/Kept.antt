@@ -5,8 +5,8 @@ use Rattle.std.specs.Ordering.{nat_cmp}
 use Rattle.std.specs.FinMap.{FinMap, entries, code}
 use Rattle.rent_engine.specs.declared.ops.Flight.{Flight}
 use Rattle.rent_engine.specs.declared.ops.OpDone.{OpDone}
-use Rattle.rent_engine.specs.declared.ops.Operation.{Operation}
-use Rattle.rent_engine.specs.declared.ops.Operation.TheVariants.{InFlight, Done}
+use Rattle.rent_engine.specs.declared.ops.Lifecycle.{Lifecycle}
+use Rattle.rent_engine.specs.declared.ops.Lifecycle.TheVariants.{InFlight, Done}
 use Rattle.rent_engine.specs.contracts.ops.Flight as flights
 use Rattle.rent_engine.specs.contracts.ops.OpDone as outcomes
 use Rattle.rent_engine.specs.Numbered.{picked}
@@ -23,14 +23,14 @@ ops_code = code_by (FinMap nat_cmp Flight × FinMap nat_cmp OpDone) (coded× (co
 abbrev pub kept_code : Coded Kept
 kept_code = code_by (Ops × ℕ) (coded× ops_code coded_ℕ) (λ k. (k.ops, k.spare)) (λ p. record { ops = p.0; spare = p.1 }) (λ _. refl)
 
-abbrev pub flight_of : Operation → Option Flight
+abbrev pub flight_of : Lifecycle → Option Flight
 flight_of (InFlight flight) = Some flight
 flight_of (Done done) = None
 
-abbrev pub done_of : Operation → Option OpDone
+abbrev pub done_of : Lifecycle → Option OpDone
 done_of (InFlight flight) = None
 done_of (Done done) = Some done
 
 -- what stands under each number, by whether it is in flight
-abbrev pub ops_of : FinMap nat_cmp Operation → Ops
+abbrev pub ops_of : FinMap nat_cmp Lifecycle → Ops
 ops_of m = record { in_flight = picked flight_of (entries m); done = picked done_of (entries m) }

@@ -4,7 +4,7 @@ use Rattle.std.specs.List.{AllByRecursion}
 use Rattle.uring_base.specs.declared.events.Completion.{Completion}
 use Rattle.uring_base.specs.Completions.{is_final}
 use Rattle.rent_engine.specs.declared.ops.Flight.{Flight}
-use Rattle.rent_engine.specs.declared.ops.EngineFault.{EngineFault}
+use Rattle.rent_engine.specs.declared.fault.EngineFault.{EngineFault}
 use Rattle.rent_engine.specs.Ops.{Ops, flight_at, done_at, knows, started, is_stranger, completed, taken_out, outcome, AreApart, Pumps}
 
 -- the completion is a final one for this number

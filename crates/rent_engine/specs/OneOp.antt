@@ -1,4 +1,4 @@
--- One operation, from its offer to its result.
+-- One operation, from its request to its result.
 use Rattle.std.specs.Prelude.{◌≡◌, ℕ, ◌<◌, Bool, true, false, bit_or, List, [], ◌∷◌, Option, Some, None, is_some, ◌⊎◌}
 use Rattle.uring_base.specs.declared.squeue.Entry.{Entry}
 use Rattle.uring_base.specs.declared.buffer.Buf.{Buf}
@@ -7,37 +7,37 @@ use Rattle.rent_engine.specs.declared.ops.OpPoll.{OpPoll}
 use Rattle.rent_engine.specs.declared.ops.OpPoll.TheVariants as polls
 use Rattle.rent_engine.specs.declared.state.Poll.{Poll}
 use Rattle.rent_engine.specs.declared.state.Poll.TheVariants.{Ready, Pending}
-use Rattle.rent_engine.specs.declared.one_op.Offer.{Offer}
+use Rattle.rent_engine.specs.declared.one_op.Request.{Request}
 use Rattle.rent_engine.specs.declared.one_op.Stage.{Stage}
 use Rattle.rent_engine.specs.declared.one_op.Stage.TheVariants.{Offers, Waits, Over}
 use Rattle.rent_engine.specs.declared.one_op.OneAnswer.{OneAnswer}
 use Rattle.rent_engine.specs.declared.one_op.OneAnswer.TheVariants.{Done, InUse, NoMemory, Lost}
 use Rattle.rent_engine.specs.Ops.{Ops, knows, started, polled, taken_out}
-use Rattle.rent_engine.specs.Engines.{asked}
+use Rattle.rent_engine.specs.Engines.{offered_entry}
 use Rattle.rent_engine.specs.States.{poll_map}
 
 abbrev pub stage_key : Stage → Option ℕ
-stage_key (Offers offer) = None
+stage_key (Offers request) = None
 stage_key (Waits key) = Some key
 stage_key Over = None
 
 abbrev pub stage_offers : Stage → Bool
-stage_offers (Offers offer) = true
+stage_offers (Offers request) = true
 stage_offers (Waits key) = false
 stage_offers Over = false
 
 abbrev pub stage_over : Stage → Bool
-stage_over (Offers offer) = false
+stage_over (Offers request) = false
 stage_over (Waits key) = false
 stage_over Over = true
 
 abbrev pub numbered : ℕ → Stage → Stage
-numbered n (Offers offer) = Offers (record offer { number = Some n })
+numbered n (Offers request) = Offers (record request { number = Some n })
 numbered n (Waits key) = Waits key
 numbered n Over = Over
 
 abbrev pub flagged : ℕ → Stage → Stage
-flagged bits (Offers offer) = Offers (record offer { entry = record offer.entry { flags = bit_or offer.entry.flags bits } })
+flagged bits (Offers request) = Offers (record request { entry = record request.entry { flags = bit_or request.entry.flags bits } })
 flagged bits (Waits key) = Waits key
 flagged bits Over = Over
 
@@ -51,39 +51,39 @@ abbrev pub addressed : ℕ → Option Buf → Entry → Entry
 addressed n None entry = entry
 addressed n (Some buf) entry = record entry { addr = n }
 
-abbrev pub offered_as : Offer → ℕ → Taken
-offered_as offer n = asked n (addressed n offer.buf offer.entry) 0 offer.buf
+abbrev pub request_entry : Request → ℕ → Taken
+request_entry request n = offered_entry n (addressed n request.buf request.entry) 0 request.buf
 
 -- it was started
-pub record Begins (offer : Offer) (n : ℕ) (ops : Ops) (ts : List Taken) (answer : Poll OneAnswer) (after : Ops) (stage : Stage) : Type 0 where
+pub record Begins (request : Request) (n : ℕ) (ops : Ops) (ts : List Taken) (answer : Poll OneAnswer) (after : Ops) (stage : Stage) : Type 0 where
   pub unknown : knows ops n ≡ false
-  pub entries : ts ≡ offered_as offer n ∷ []
-  pub operations : after ≡ started n (is_some offer.buf) ops
+  pub entries : ts ≡ request_entry request n ∷ []
+  pub operations : after ≡ started n (is_some request.buf) ops
   pub gives : answer ≡ Pending
   pub next : stage ≡ Waits n
 
 -- the ring was full
-pub record IsHeld (offer : Offer) (n : ℕ) (ops : Ops) (ts : List Taken) (answer : Poll OneAnswer) (after : Ops) (stage : Stage) : Type 0 where
+pub record IsHeld (request : Request) (n : ℕ) (ops : Ops) (ts : List Taken) (answer : Poll OneAnswer) (after : Ops) (stage : Stage) : Type 0 where
   pub unknown : knows ops n ≡ false
   pub entries : ts ≡ []
   pub operations : after ≡ ops
   pub gives : answer ≡ Pending
-  pub next : stage ≡ Offers offer
+  pub next : stage ≡ Offers request
 
 -- its number was in use
-pub record IsRefused (offer : Offer) (n : ℕ) (ops : Ops) (ts : List Taken) (answer : Poll OneAnswer) (after : Ops) (stage : Stage) : Type 0 where
+pub record IsRefused (request : Request) (n : ℕ) (ops : Ops) (ts : List Taken) (answer : Poll OneAnswer) (after : Ops) (stage : Stage) : Type 0 where
   pub known : knows ops n ≡ true
   pub entries : ts ≡ []
   pub operations : after ≡ ops
-  pub gives : answer ≡ Ready (InUse offer.buf)
+  pub gives : answer ≡ Ready (InUse request.buf)
   pub next : stage ≡ Over
 
 -- there was no memory
-pub record IsLacking (offer : Offer) (n : ℕ) (ops : Ops) (ts : List Taken) (answer : Poll OneAnswer) (after : Ops) (stage : Stage) : Type 0 where
+pub record IsLacking (request : Request) (n : ℕ) (ops : Ops) (ts : List Taken) (answer : Poll OneAnswer) (after : Ops) (stage : Stage) : Type 0 where
   pub unknown : knows ops n ≡ false
   pub entries : ts ≡ []
   pub operations : after ≡ ops
-  pub gives : answer ≡ Ready (NoMemory offer.buf)
+  pub gives : answer ≡ Ready (NoMemory request.buf)
   pub next : stage ≡ Over
 
 abbrev pub answer_of : OpPoll → Poll OneAnswer
@@ -105,9 +105,9 @@ pub record IsAskedFor (key : ℕ) (ops : Ops) (ts : List Taken) (answer : Poll O
 
 -- one poll
 abbrev pub OneStep : Stage → Ops → List Taken → Poll OneAnswer → Ops → Stage → Type 0
-OneStep (Offers offer) ops ts answer after stage =
-    (n : ℕ) × IsItsNumber offer.number ops n
-    × (Begins offer n ops ts answer after stage ⊎ (IsHeld offer n ops ts answer after stage ⊎ (IsRefused offer n ops ts answer after stage ⊎ IsLacking offer n ops ts answer after stage)))
+OneStep (Offers request) ops ts answer after stage =
+    (n : ℕ) × IsItsNumber request.number ops n
+    × (Begins request n ops ts answer after stage ⊎ (IsHeld request n ops ts answer after stage ⊎ (IsRefused request n ops ts answer after stage ⊎ IsLacking request n ops ts answer after stage)))
 OneStep (Waits key) ops ts answer after stage = IsAskedFor key ops ts answer after stage
 OneStep Over ops ts answer after stage = ⊥
 

@@ -11,8 +11,8 @@ use Rattle.rent_engine.specs.declared.ops.OpDone.{OpDone}
 use Rattle.rent_engine.specs.declared.ops.Step.{Step}
 use Rattle.rent_engine.specs.declared.ops.OpPoll.{OpPoll}
 use Rattle.rent_engine.specs.declared.ops.OpPoll.TheVariants.{Ready, Pending, Lost}
-use Rattle.rent_engine.specs.declared.ops.EngineFault.{EngineFault}
-use Rattle.rent_engine.specs.declared.ops.EngineFault.TheVariants.{Stranger, Fault, NoMemory}
+use Rattle.rent_engine.specs.declared.fault.EngineFault.{EngineFault}
+use Rattle.rent_engine.specs.declared.fault.EngineFault.TheVariants.{Stranger, Fault, NoMemory}
 
 pub record Ops : Type 0 where
   pub in_flight : FinMap nat_cmp Flight

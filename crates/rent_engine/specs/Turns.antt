@@ -7,23 +7,15 @@ use Rattle.uring_model.specs.Schedule.{Machine, State}
 use Rattle.ring_setup.specs.declared.parameters.Parameters.{Parameters}
 use Rattle.ring_traits.specs.Lists.{Lists, Becomes, all_published}
 use Rattle.uring_submit.specs.declared.error.SubmitError.{SubmitError}
-use Rattle.uring_submit.specs.declared.error.SubmitError.TheVariants as submit
 use Rattle.uring_submit.specs.Decisions.{wanted_call}
 use Rattle.uring_submit.specs.Submits.{EntersOnce}
-use Rattle.rent_engine.specs.declared.ops.EngineFault.{EngineFault}
-use Rattle.rent_engine.specs.declared.ops.EngineFault.TheVariants.{Fault, NoMemory}
+use Rattle.rent_engine.specs.declared.fault.EngineFault.{EngineFault}
 use Rattle.rent_engine.specs.declared.ops.TurnReport.{TurnReport}
 use Rattle.rent_engine.specs.Ops.{Ops}
-use Rattle.rent_engine.specs.Engines.{Pumped, ending, finals_in}
+use Rattle.rent_engine.specs.Engines.{Pumped, finals_in}
+use Rattle.rent_engine.specs.Faults.{ending, fault_of}
 
--- A partner's error, handed on. The other two aren't a partner's.
-abbrev pub fault_of : SubmitError → EngineFault
-fault_of submit.Exists = NoMemory
-fault_of submit.NotRegistered = NoMemory
-fault_of (submit.Fault errno) = Fault errno
-fault_of submit.NoMemory = NoMemory
-
-module _ {W : Type 0} (m : Machine W) {P R : Type 0} (log : P → Option (List LogEvent)) (state : P → Option (State W)) (lists : R → Option Lists) (moved : R → List Taken → List Completion → R → Type 0) (flags_word : R → ℕ) (used : R → List Taken → List Completion → R → Type 0) where
+module _ {W : Type 0} (m : Machine W) {P R : Type 0} (log : P → Option (List LogEvent)) (state : P → Option (State W)) (lists : R → Option Lists) (ready space : R → ℕ) (moved : R → List Taken → List Completion → R → Type 0) (flags_word : R → ℕ) (used : R → List Taken → List Completion → R → Type 0) where
   -- what was offered is published, and the partner enters once, over all that is published, and waits for one completion
   pub record Submitted (params : Parameters) (old new : P) (before after : R) (result : Result ℕ SubmitError) : Type 0 where
     pub shown : R
@@ -31,7 +23,7 @@ module _ {W : Type 0} (m : Machine W) {P R : Type 0} (log : P → Option (List L
     pub told : Becomes (lists before) all_published (lists shown)
     pub published : ℕ
     pub counted : IfSome (lists shown) (λ l. published ≡ length l.published)
-    pub enters : EntersOnce m log state lists moved (wanted_call published (flags_word shown) params 1) old new shown after result
+    pub enters : EntersOnce m log state lists ready space moved (wanted_call published (flags_word shown) params 1) old new shown after result
 
   module _ (room waiting : R → ℕ) where
     -- after an enter that succeeds all is pumped, and the report says how many were taken; after another nothing more is done

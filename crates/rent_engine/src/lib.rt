@@ -1,18 +1,22 @@
 //! Operations in flight over a pair of rings.
 #![tactic(auto)]
 
+mod completions;
 mod engine;
+mod fault;
 pub mod laws;
+mod numbered_slab;
 mod one_op;
+mod op_kind;
 mod operations;
 mod ops;
-mod single;
+mod start;
 mod state;
-mod table;
 mod turn;
 
 pub use engine::Engine;
-pub use one_op::{Offer, OneAnswer, OneOp, Stage};
-pub use ops::{EngineFault, OpDone, OpKey, OpPoll, StartFault, Step, TurnReport};
-pub use single::{Kind, Single};
+pub use fault::{EngineFault, StartFault};
+pub use one_op::{OneAnswer, OneOp, Request, Stage};
+pub use op_kind::{Op, OpKind};
+pub use ops::{OpDone, OpKey, OpPoll, Step, TurnReport};
 pub use state::{OpState, Poll};

@@ -1,4 +1,4 @@
-//! One operation, from its offer to its result.
+//! One operation, from its request to its result.
 
 ghost use Rattle.std.specs.Prelude.{◌≡◌, ◌+◌, ◌≤◌, ℕ, not, false, List, None};
 ghost use Rattle.uring_base.specs.declared.events.Taken.{Taken};
@@ -8,7 +8,8 @@ ghost use Rattle.rent_engine.specs.OneOp.{addressed, numbered, flagged, stage_ke
 ghost use Rattle.rent_engine.specs.States.{is_pending, waits_on, KeepsInFlight};
 
 use crate::engine::Engine;
-use crate::ops::{OpDone, OpKey, OpPoll, StartFault};
+use crate::fault::StartFault;
+use crate::ops::{OpDone, OpKey, OpPoll};
 use crate::state::{OpState, Poll};
 use std::alloc::Global;
 use std::marker::Model;
@@ -20,7 +21,7 @@ use ring_traits::UserEnds;
 /// An operation that is still to be offered: its number, if one was given, its entry, and the
 /// buffer that it lends.
 #[derive(Drop)]
-pub struct Offer {
+pub struct Request {
     pub number: Option<u64>,
     pub entry: Entry,
     pub buf: Option<Buf>,
@@ -29,7 +30,7 @@ pub struct Offer {
 /// How far an operation has come.
 #[derive(Drop)]
 pub enum Stage {
-    Offers(Offer),
+    Offers(Request),
     Waits(OpKey),
     Over,
 }
@@ -66,7 +67,7 @@ impl OneOp {
         ensures { result ≡ Stage.Offers (record { number = None; entry = entry; buf = buf }) }
     {
         OneOp {
-            stage: Stage::Offers(Offer {
+            stage: Stage::Offers(Request {
                 number: None,
                 entry,
                 buf,
@@ -80,13 +81,13 @@ impl OneOp {
     {
         match self.stage {
             Stage::Offers(
-                Offer {
+                Request {
                     number: _,
                     entry,
                     buf,
                 },
             ) => OneOp {
-                stage: Stage::Offers(Offer {
+                stage: Stage::Offers(Request {
                     number: Some(number),
                     entry,
                     buf,
@@ -101,8 +102,8 @@ impl OneOp {
         ensures { result ≡ flagged (bits_in flags) self }
     {
         match self.stage {
-            Stage::Offers(Offer { number, entry, buf }) => OneOp {
-                stage: Stage::Offers(Offer {
+            Stage::Offers(Request { number, entry, buf }) => OneOp {
+                stage: Stage::Offers(Request {
                     number,
                     entry: entry.flags(flags),
                     buf,
@@ -116,11 +117,11 @@ impl OneOp {
         &mut self,
         alloc: Global,
         engine: &mut Engine<R>,
-        offer: Offer,
+        request: Request,
     ) -> Poll<OneAnswer>
         requires { self.old ≡ Stage.Over }
         ensures polls { (ts : List Taken) × Offered R.used R.lists R.room R.waiting engine.old.ring ts engine.new.ring
-            × OneStep (Stage.Offers offer) engine.old.ops ts result engine.new.ops self.new }
+            × OneStep (Stage.Offers request) engine.old.ops ts result engine.new.ops self.new }
         ensures pending { is_pending result ≡ waits_on (stage_key self.new) (stage_offers self.new) engine.new.ops (R.room engine.new.ring) }
         ensures done { stage_over self.new ≡ not (is_pending result) }
         ensures in_flight { KeepsInFlight engine.old.ops engine.new.ops }
@@ -128,20 +129,20 @@ impl OneOp {
         ensures spare { engine.old.spare ≤ engine.new.spare + 1 }
         ensures params { engine.new.params ≡ engine.old.params }
     {
-        let Offer {
+        let Request {
             number: given,
             entry,
             buf,
-        } = offer;
+        } = request;
         let number = its_number(given, engine);
-        let asked = addressed(entry, number, &buf);
-        match engine.start(alloc, number, asked, 0, buf) {
+        let addressed_entry = addressed(entry, number, &buf);
+        match engine.start(alloc, number, addressed_entry, 0, buf) {
             Ok(key) => {
                 self.stage = Stage::Waits(key);
                 Poll::Pending
             }
             Err(StartFault::RingFull(buf)) => {
-                self.stage = Stage::Offers(Offer {
+                self.stage = Stage::Offers(Request {
                     number: given,
                     entry,
                     buf,
@@ -190,7 +191,7 @@ impl OpState for OneOp {
 
     fn poll<R: UserEnds>(&mut self, alloc: Global, engine: &mut Engine<R>) -> Poll<OneAnswer> {
         match mem::replace(&mut self.stage, Stage::Over) {
-            Stage::Offers(offer) => self.begin(alloc, engine, offer),
+            Stage::Offers(request) => self.begin(alloc, engine, request),
             Stage::Waits(key) => self.look(engine, key),
             Stage::Over => unreachable!(),
         }

@@ -4,8 +4,8 @@ ghost use Rattle.std.specs.Prelude.{◌≡◌, ◌+◌, ◌^◌, ◌<◌, ◌≤
 ghost use Rattle.std.specs.FinMap.{insert, len, remove};
 ghost use Rattle.rent_engine.specs.Ops.{no_ops, flight_at, done_at, knows, started, resolved_as, AreApart};
 
-use crate::ops::{Flight, OpDone, Operation};
-use crate::table::Table;
+use crate::ops::{Flight, OpDone, Lifecycle};
+use crate::numbered_slab::NumberedSlab;
 use std::alloc::{AllocError, Global};
 use std::marker::Model;
 
@@ -13,7 +13,7 @@ use std::marker::Model;
 /// is taken.
 #[derive(Drop)]
 pub(crate) struct Operations {
-    table: Table<Operation>,
+    table: NumberedSlab<Lifecycle>,
     in_flight: usize,
 }
 
@@ -36,7 +36,7 @@ impl Operations {
         ensures { result.ops ≡ no_ops }
     {
         Operations {
-            table: Table::new(alloc),
+            table: NumberedSlab::new(alloc),
             in_flight: 0,
         }
     }
@@ -72,8 +72,8 @@ impl Operations {
         ensures { result ≡ flight_at self.now.ops number }
     {
         match self.table.get(number) {
-            Some(Operation::InFlight(flight)) => Some(*flight),
-            Some(Operation::Done(_)) => None,
+            Some(Lifecycle::InFlight(flight)) => Some(*flight),
+            Some(Lifecycle::Done(_)) => None,
             None => None,
         }
     }
@@ -99,7 +99,7 @@ impl Operations {
     {
         let forgotten = false;
         self.table
-            .insert(number, Operation::InFlight(Flight { lent, forgotten }));
+            .insert(number, Lifecycle::InFlight(Flight { lent, forgotten }));
         self.in_flight += 1;
     }
 
@@ -122,7 +122,7 @@ impl Operations {
         ensures spare { self.old.spare ≤ self.new.spare }
     {
         self.in_flight -= 1;
-        self.table.replace(number, Operation::Done(outcome));
+        self.table.replace(number, Lifecycle::Done(outcome));
     }
 
     fn discard(&mut self, number: u64)
@@ -142,8 +142,8 @@ impl Operations {
         ensures spare { self.old.spare ≤ self.new.spare }
     {
         match self.table.remove(number) {
-            Some(Operation::Done(done)) => Some(done),
-            Some(Operation::InFlight(_)) => unreachable!(),
+            Some(Lifecycle::Done(done)) => Some(done),
+            Some(Lifecycle::InFlight(_)) => unreachable!(),
             None => None,
         }
     }

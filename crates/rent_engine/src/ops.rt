@@ -14,7 +14,7 @@ pub(crate) struct Flight {
 
 /// What an engine has under a number.
 #[derive(Drop)]
-pub(crate) enum Operation {
+pub(crate) enum Lifecycle {
     InFlight(Flight),
     Done(OpDone),
 }
@@ -60,31 +60,11 @@ pub enum OpPoll {
     Lost(OpKey),
 }
 
-/// Why an operation wasn't started. The buffer comes back.
-#[derive(Drop)]
-pub enum StartFault {
-    /// The number is in flight, or resolved and unpolled.
-    KeyInUse(Option<Buf>),
-    /// The submission ring was full as last seen.
-    RingFull(Option<Buf>),
-    NoMemory(Option<Buf>),
-}
-
-/// Why completions weren't all taken.
-#[derive(Clone, Copy, PartialEq, Eq, Debug)]
-pub enum EngineFault {
-    /// A completion that no operation in flight may have; it was dropped.
-    Stranger(u64),
-    /// The partner is at fault, with this errno.
-    Fault(u32),
-    NoMemory,
-}
-
 /// What a turn did.
 #[derive(Clone, Copy, PartialEq, Eq, Debug)]
 pub struct TurnReport {
     /// How many entries the partner took.
     pub taken: u32,
-    /// How many operations were resolved; it stays at 4294967295 once there.
+    /// How many operations were resolved; it stays at `u32::MAX` once there.
     pub finals: u32,
 }

@@ -3,12 +3,13 @@
 ghost use Rattle.std.specs.Prelude.{◌≡◌, ◌≤◌, ◌^◌, ◌<◌, true, IfErr, IfOk, IfSome, IsTrue, OnOk, Contains};
 ghost use Rattle.uring_base.specs.Causes.{HasCause};
 ghost use Rattle.partner_traits.specs.Calls.{later_plan};
-ghost use Rattle.uring_submit.specs.Errors.{is_fault as is_submit_fault, is_of_partner};
-ghost use Rattle.rent_engine.specs.Engines.{is_fault};
-ghost use Rattle.rent_engine.specs.Turns.{Turned, Submitted, fault_of};
+ghost use Rattle.uring_submit.specs.Errors.{KeepsErrno as KeepsSubmitErrno, is_fault as is_submit_fault, is_of_partner};
+ghost use Rattle.rent_engine.specs.Faults.{KeepsErrno, is_fault};
+ghost use Rattle.rent_engine.specs.Turns.{Turned, Submitted};
 
 use crate::engine::Engine;
-use crate::ops::{EngineFault, TurnReport};
+use crate::fault::EngineFault;
+use crate::ops::TurnReport;
 use std::alloc::Global;
 use partner_traits::Partner;
 use ring_traits::{PartnerSide, UserEnds};
@@ -22,35 +23,32 @@ impl<R: UserEnds + PartnerSide> Engine<R> {
         alloc: Global,
         partner: &mut P,
     ) -> Result<TurnReport, EngineFault>
-        ensures turned { Turned P.machine P.log P.state R.lists R.moved R.flags_word R.used R.room R.waiting self.old.params partner.old partner.new self.old.ring self.new.ring self.old.ops self.new.ops result }
+        ensures turned { Turned P.machine P.log P.state R.lists R.ready R.space R.moved R.flags_word R.used R.room R.waiting self.old.params partner.old partner.new self.old.ring self.new.ring self.old.ops self.new.ops result }
         ensures none_left { OnOk result (R.waiting self.new.ring ≡ 0) }
         ensures cause { HasCause is_fault (P.faults partner.old) (P.faults partner.new) result }
         ensures planned { IfSome (P.state partner.old) (λ _. IfErr result (λ fault. IsTrue (is_fault fault) → Contains (P.plan partner.old) 1)) }
         ensures counted { IfSome (P.state partner.old) (λ _. ¬ Contains (P.plan partner.old) 1 → P.faults partner.new ≡ P.faults partner.old) }
         ensures plan { P.plan partner.new ≡ later_plan (P.plan partner.old) }
+        ensures errno { KeepsErrno result (P.errno partner.old) (P.errno partner.new) }
         ensures spare { self.old.spare ≤ self.new.spare }
         ensures params { self.new.params ≡ self.old.params }
     {
-        let taken = match self.submit(alloc, partner) {
-            Ok(taken) => taken,
-            Err(error) => return Err(fault_of(error)),
-        };
-        match self.pump(alloc) {
-            Ok(report) => Ok(TurnReport {
-                taken: taken as u32,
-                finals: report.finals,
-            }),
-            Err(fault) => Err(fault),
-        }
+        let taken = self.submit(alloc, partner)?;
+        let report = self.pump(alloc)?;
+        Ok(TurnReport {
+            taken: taken as u32,
+            ..report
+        })
     }
 
     /// Shows the partner what was offered, and has it enter once.
     fn submit<P: Partner>(&mut self, alloc: Global, partner: &mut P) -> Result<usize, SubmitError>
-        ensures submitted { Submitted P.machine P.log P.state R.lists R.moved R.flags_word R.used self.old.params partner.old partner.new self.old.ring self.new.ring result }
+        ensures submitted { Submitted P.machine P.log P.state R.lists R.ready R.space R.moved R.flags_word R.used self.old.params partner.old partner.new self.old.ring self.new.ring result }
         ensures cause { HasCause is_submit_fault (P.faults partner.old) (P.faults partner.new) result }
         ensures planned { IfSome (P.state partner.old) (λ _. IfErr result (λ e. IsTrue (is_submit_fault e) → Contains (P.plan partner.old) 1)) }
         ensures counted { IfSome (P.state partner.old) (λ _. ¬ Contains (P.plan partner.old) 1 → P.faults partner.new ≡ P.faults partner.old) }
         ensures plan { P.plan partner.new ≡ later_plan (P.plan partner.old) }
+        ensures errno { KeepsSubmitErrno result (P.errno partner.old) (P.errno partner.new) }
         ensures errors { IfErr result (λ e. is_of_partner e ≡ true) }
         ensures fits { IfOk result (λ n. n < 2 ^ 32) }
         ensures ops { self.new.ops ≡ self.old.ops }
@@ -60,17 +58,5 @@ impl<R: UserEnds + PartnerSide> Engine<R> {
         self.ring.publish();
         self.submitter
             .submit_and_wait(alloc, &mut self.ring, partner, 1)
-    }
-}
-
-/// The fault of an error that a partner answered.
-fn fault_of(error: SubmitError) -> EngineFault
-    requires { is_of_partner error ≡ true }
-    ensures { result ≡ fault_of error }
-{
-    match error {
-        SubmitError::Fault(errno) => EngineFault::Fault(errno),
-        SubmitError::NoMemory => EngineFault::NoMemory,
-        SubmitError::Exists | SubmitError::NotRegistered => unreachable!(),
     }
 }

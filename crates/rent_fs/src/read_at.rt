@@ -6,20 +6,20 @@ ghost use Rattle.rent_fs.specs.Entries.{read_entry};
 
 use crate::error::FsError;
 use crate::moved::moved;
-use rent_engine::{Kind, OneAnswer, Single};
+use rent_engine::{OpKind, OneAnswer, Op};
 use std::alloc::Global;
 use uring_base::Buf;
 use uring_base::types::Fixed;
 use uring_ops_file::Read;
 
 /// A read at a position. Its output is the count, and the buffer as it came back.
-pub type ReadAt = Single<Reading>;
+pub type ReadAt = Op<Reading>;
 
 /// What a read gives.
 #[derive(Drop)]
 pub struct Reading;
 
-impl Kind for Reading {
+impl OpKind for Reading {
     ghost use Rattle.rent_fs.specs.Outputs.{moved, HasSmallCount};
 
     type Output = (Result<usize, FsError>, Buf);
@@ -39,5 +39,5 @@ pub(crate) fn read_at(file: u32, buf: Buf, pos: u64) -> ReadAt
 {
     let len = buf.len() as u32;
     let entry = Read::new(Fixed(file), 0, len).offset(pos).build();
-    Single::new(entry, Some(buf))
+    Op::new(entry, Some(buf))
 }

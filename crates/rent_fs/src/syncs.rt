@@ -6,19 +6,19 @@ ghost use Rattle.rent_fs.specs.Entries.{no_flags, sync_entry};
 
 use crate::error::FsError;
 use crate::synced::synced;
-use rent_engine::{Kind, OneAnswer, Single};
+use rent_engine::{OpKind, OneAnswer, Op};
 use std::alloc::Global;
 use uring_base::types::{Fixed, FsyncFlags};
 use uring_ops_file::Fsync;
 
 /// A sync of a file. Its output is that it is done, or why it isn't.
-pub type Sync = Single<Syncing>;
+pub type Sync = Op<Syncing>;
 
 /// What a sync gives.
 #[derive(Drop)]
 pub struct Syncing;
 
-impl Kind for Syncing {
+impl OpKind for Syncing {
     ghost use Rattle.rent_fs.specs.Outputs.{synced, IsSmallFault};
 
     type Output = Result<(), FsError>;
@@ -36,7 +36,7 @@ impl Kind for Syncing {
 pub(crate) fn sync_all(file: u32) -> Sync
     ensures { result ≡ Offers (record { number = None; entry = sync_entry file no_flags; buf = None }) }
 {
-    Single::new(Fsync::new(Fixed(file)).build(), None)
+    Op::new(Fsync::new(Fixed(file)).build(), None)
 }
 
 /// A sync of a file's data.
@@ -44,5 +44,5 @@ pub(crate) fn sync_data(file: u32) -> Sync
     ensures { result ≡ Offers (record { number = None; entry = sync_entry file FsyncFlags.DATASYNC; buf = None }) }
 {
     let entry = Fsync::new(Fixed(file)).flags(FsyncFlags::DATASYNC).build();
-    Single::new(entry, None)
+    Op::new(entry, None)
 }

@@ -6,20 +6,20 @@ ghost use Rattle.rent_fs.specs.Entries.{write_entry};
 
 use crate::error::FsError;
 use crate::moved::moved;
-use rent_engine::{Kind, OneAnswer, Single};
+use rent_engine::{OpKind, OneAnswer, Op};
 use std::alloc::Global;
 use uring_base::Buf;
 use uring_base::types::Fixed;
 use uring_ops_file::Write;
 
 /// A write at a position. Its output is the count, and the buffer as it came back.
-pub type WriteAt = Single<Writing>;
+pub type WriteAt = Op<Writing>;
 
 /// What a write gives.
 #[derive(Drop)]
 pub struct Writing;
 
-impl Kind for Writing {
+impl OpKind for Writing {
     ghost use Rattle.rent_fs.specs.Outputs.{moved, HasSmallCount};
 
     type Output = (Result<usize, FsError>, Buf);
@@ -39,5 +39,5 @@ pub(crate) fn write_at(file: u32, buf: Buf, pos: u64) -> WriteAt
 {
     let len = buf.len() as u32;
     let entry = Write::new(Fixed(file), 0, len).offset(pos).build();
-    Single::new(entry, Some(buf))
+    Op::new(entry, Some(buf))
 }

@@ -1,1 +1,3 @@
+pub mod Entered
+pub mod Full
 pub mod Unmoved

@@ -1,5 +1,10 @@
 -- Why a submitter's call failed.
-use Rattle.std.specs.Prelude.{Bool, true, false}
+use Rattle.std.specs.Prelude.{◌≡◌, ℕ, Bool, true, false, Some, Result, Ok, Err}
+use Rattle.std.specs.Int.{w32, cast_signed}
+use Rattle.std.specs.IoError.{raw_os_error, error_kind}
+use Rattle.std.specs.declared.io.Error.{Error}
+use Rattle.std.specs.declared.io.ErrorKind.TheVariants.{OutOfMemory}
+use Rattle.uring_base.specs.declared.errno.TheConstants.{EEXIST, EINVAL}
 use Rattle.partner_traits.specs.declared.call.PartnerError.{PartnerError}
 use Rattle.partner_traits.specs.declared.call.PartnerError.TheVariants as partner
 use Rattle.uring_submit.specs.declared.error.SubmitError.{SubmitError}
@@ -22,3 +27,18 @@ is_of_partner Exists = false
 is_of_partner NotRegistered = false
 is_of_partner (Fault errno) = true
 is_of_partner NoMemory = true
+
+-- a fault has the error number that the partner keeps now, and any other answer leaves the one that it kept
+abbrev pub KeepsErrno : {T : Type 0} → Result T SubmitError → ℕ → ℕ → Type 0
+KeepsErrno (Ok x) before after = after ≡ before
+KeepsErrno (Err Exists) before after = after ≡ before
+KeepsErrno (Err NotRegistered) before after = after ≡ before
+KeepsErrno (Err (Fault errno)) before after = after ≡ errno
+KeepsErrno (Err NoMemory) before after = after ≡ before
+
+-- as an error of the system: the error number of Linux, or want of memory
+abbrev pub IsToldAs : SubmitError → Error → Type 0
+IsToldAs Exists e = raw_os_error e ≡ Some EEXIST
+IsToldAs NotRegistered e = raw_os_error e ≡ Some EINVAL
+IsToldAs (Fault errno) e = raw_os_error e ≡ Some (cast_signed w32 errno)
+IsToldAs NoMemory e = error_kind e ≡ OutOfMemory

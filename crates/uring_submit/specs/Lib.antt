@@ -1,3 +1,4 @@
 pub mod Decisions
+pub mod EnterBits
 pub mod Errors
 pub mod Submits

@@ -8,21 +8,22 @@ use Rattle.uring_model.specs.Schedule.{Machine, State}
 use Rattle.ring_setup.specs.declared.parameters.Parameters.{Parameters}
 use Rattle.ring_traits.specs.Lists.{Lists}
 use Rattle.partner_traits.specs.declared.call.EnterCall.{EnterCall}
-use Rattle.partner_traits.specs.Calls.{Enters, IsCall, IsWholeTurn}
+use Rattle.partner_traits.specs.Calls.{Enters, IsCall, IsFullTurn}
 use Rattle.uring_submit.specs.declared.error.SubmitError.{SubmitError}
 use Rattle.uring_submit.specs.declared.submitter.Submitter.{Submitter}
 
 abbrev pub params_of : Submitter → Parameters
 params_of submitter = submitter.params
 
-module _ {W : Type 0} (m : Machine W) {P Q : Type 0} (log : P → Option (List LogEvent)) (state : P → Option (State W)) (lists : Q → Option Lists) (moved : Q → List Taken → List Completion → Q → Type 0) where
-  -- one enter with these values, as a partner promises it: there is one list of moves, a turn where it succeeds
+module _ {W : Type 0} (m : Machine W) {P Q : Type 0} (log : P → Option (List LogEvent)) (state : P → Option (State W)) (lists : Q → Option Lists) (ready space : Q → ℕ) (moved : Q → List Taken → List Completion → Q → Type 0) where
+  -- One enter with these values, as a partner promises it: there is one list of moves. Where it succeeds they are a turn, which
+  -- takes what was known to wait, and settles with the room that was known.
   pub record EntersOnce (entered : EnterCall) (old new : P) (from to : Q) (result : Result ℕ SubmitError) : Type 0 where
     pub moves : List Move
     pub made : Enters m log state moved old new from to moves
     pub call : IsCall (is_ok result) entered.to_submit (lists from) moves
     pub taken : IfOk result (λ n. n ≡ length (took moves))
-    pub whole : OnOk result (IsWholeTurn m (state old) (lists from) moves)
+    pub full : OnOk result (IsFullTurn m (state old) (ready from) (space from) (lists from) moves)
 
   -- the one enter that was decided, or the answer how many are published
   abbrev pub Submits : Option EnterCall → ℕ → P → P → Q → Q → Result ℕ SubmitError → Type 0

@@ -2,7 +2,9 @@
 #![tactic(auto)]
 
 mod error;
+mod flags;
 mod submitter;
 
 pub use error::SubmitError;
+pub use flags::EnterFlags;
 pub use submitter::Submitter;

@@ -1,7 +1,7 @@
 use Rattle.std.proofs.Common.{ap, ◌∙◌, arith}
 use Rattle.slab.specs.Slab.{get}
 use Rattle.rent_engine.proofs.Indexed.{picked-same, IsIndexed-same, len-picked}
-use Rattle.rent_engine.proofs.table.Table.reserve.Goals as goal
+use Rattle.rent_engine.proofs.numbered_slab.NumberedSlab.reserve.Goals as goal
 
 pub invariant_of-self-2 : goal.invariant_of-self-2
 invariant_of-self-2 g c = IsIndexed-same _ _ _ _ c.reserve-2.ensures.entries.2 (λ p. ap (λ s. get s p) c.reserve.ensures.rest_kept) c.self.invariant

@@ -3,7 +3,7 @@ use Rattle.std.specs.Option.{option_and_then}
 use Rattle.slab.specs.Slab.{get}
 use Rattle.rent_engine.specs.Numbered.{at}
 use Rattle.rent_engine.proofs.Picks.{get-at}
-use Rattle.rent_engine.proofs.table.Table.get.Goals as goal
+use Rattle.rent_engine.proofs.numbered_slab.NumberedSlab.get.Goals as goal
 
 pub returns-in-Some : goal.returns-in-Some
 returns-in-Some g c = c.get-in-Some.ensures ∙ sym (get-at (get c.self.inside.places) c.self.inside.index.entries c.args.number ∙ ap (option_and_then (get c.self.inside.places)) (sym c.in-Some.ensures.value)) ∙ ap (λ t. at t c.args.number) c.self.view_is

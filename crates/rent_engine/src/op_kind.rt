@@ -14,7 +14,7 @@ use uring_base::squeue::{Entry, Flags};
 use ring_traits::UserEnds;
 
 /// What a state of one operation gives: an output, by what became of its operation.
-pub trait Kind {
+pub trait OpKind {
     ghost use Rattle.rent_engine.specs.declared.one_op.OneAnswer.{OneAnswer};
 
     type Output;
@@ -32,12 +32,12 @@ pub trait Kind {
 
 /// A state of one operation, which gives its kind's output.
 #[derive(Drop)]
-pub struct Single<K> {
+pub struct Op<K> {
     op: OneOp,
     kind: PhantomData<K>,
 }
 
-impl<K> Model for Single<K> {
+impl<K> Model for Op<K> {
     ghost use Rattle.rent_engine.specs.declared.one_op.Stage.{Stage};
 
     ghost Value = { Stage };
@@ -45,13 +45,13 @@ impl<K> Model for Single<K> {
     ghost view = { λ state. state.op };
 }
 
-impl<K> Single<K> {
+impl<K> Op<K> {
     ghost use Rattle.rent_engine.specs.declared.one_op.Stage.TheVariants.{Offers};
 
-    pub fn new(entry: Entry, buf: Option<Buf>) -> Single<K>
+    pub fn new(entry: Entry, buf: Option<Buf>) -> Op<K>
         ensures { result ≡ Offers (record { number = None; entry = entry; buf = buf }) }
     {
-        Single {
+        Op {
             op: OneOp::new(entry, buf),
             kind: PhantomData,
         }
@@ -59,27 +59,27 @@ impl<K> Single<K> {
 
     /// The same under that number, where it is still to be offered. Without one it takes the least
     /// that is free.
-    pub fn with_number(self, number: u64) -> Single<K>
+    pub fn with_number(self, number: u64) -> Op<K>
         ensures { result ≡ numbered number self }
     {
-        Single {
+        Op {
             op: self.op.with_number(number),
             kind: PhantomData,
         }
     }
 
     /// The same with these flags added to its entry, where it is still to be offered.
-    pub fn with_flags(self, flags: Flags) -> Single<K>
+    pub fn with_flags(self, flags: Flags) -> Op<K>
         ensures { result ≡ flagged (bits_in flags) self }
     {
-        Single {
+        Op {
             op: self.op.with_flags(flags),
             kind: PhantomData,
         }
     }
 }
 
-impl<K: Kind> OpState for Single<K> {
+impl<K: OpKind> OpState for Op<K> {
     ghost use Rattle.uring_base.specs.declared.events.Taken.{Taken};
     ghost use Rattle.rent_engine.specs.Engines.{Offered};
     ghost use Rattle.rent_engine.specs.OneOp.{PollsAs};

@@ -4,7 +4,7 @@ use Rattle.slab.proofs.SlabLemmas.{Updates-with_value}
 use Rattle.slab.specs.Slab.{ContainsKey}
 use Rattle.rent_engine.specs.Numbered.{at}
 use Rattle.rent_engine.proofs.Indexed.{picked-changed, no_place_of_it, no_value}
-use Rattle.rent_engine.proofs.table.Table.replace.Goals as goal
+use Rattle.rent_engine.proofs.numbered_slab.NumberedSlab.replace.Goals as goal
 
 pub returns-in-Some-get_mut-clause-entries : goal.returns-in-Some-get_mut-clause-entries
 returns-in-Some-get_mut-clause-entries g c =

@@ -5,7 +5,7 @@ use Rattle.slab.specs.Slab.{get}
 use Rattle.rent_engine.specs.Numbered.{at}
 use Rattle.rent_engine.proofs.Picks.{get-at}
 use Rattle.rent_engine.proofs.Indexed.{picked-left, picked-absent, IsIndexed-left}
-use Rattle.rent_engine.proofs.table.Table.remove.Goals as goal
+use Rattle.rent_engine.proofs.numbered_slab.NumberedSlab.remove.Goals as goal
 
 pub invariant_of-self : goal.invariant_of-self
 invariant_of-self g c = IsIndexed-left _ _ _ _ c.args.number c.in-Some.place c.in-Some.ensures.updates.0 (sym c.in-Some.ensures.value) c.try_remove.ensures.updates c.self.invariant

@@ -11,12 +11,12 @@ use std::marker::Model;
 
 /// Values by number: a slab of them, and an index from numbers to their places in it.
 #[derive(Drop)]
-pub(crate) struct Table<T> {
+pub(crate) struct NumberedSlab<T> {
     places: Slab<T>,
     index: HashMap<u64, usize>,
 }
 
-impl<T> Model for Table<T> {
+impl<T> Model for NumberedSlab<T> {
     ghost use Rattle.std.specs.Prelude.{min};
     ghost use Rattle.std.specs.HashMap.{spare};
     ghost use Rattle.slab.specs.Slab.{get};
@@ -31,11 +31,11 @@ impl<T> Model for Table<T> {
     ghost invariant = { λ t. IsIndexed t.index.entries t.places };
 }
 
-impl<T> Table<T> {
-    pub(crate) fn new(alloc: Global) -> Table<T>
+impl<T> NumberedSlab<T> {
+    pub(crate) fn new(alloc: Global) -> NumberedSlab<T>
         ensures { result.entries ≡ empty }
     {
-        Table {
+        NumberedSlab {
             places: Slab::new(alloc),
             index: HashMap::new(alloc),
         }

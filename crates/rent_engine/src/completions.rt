@@ -1,0 +1,103 @@
+//! Completions of operations.
+
+ghost use Rattle.std.specs.Prelude.{◌≡◌, ◌+◌, ◌^◌, ◌-◌, ◌≤◌, not, false, min, OnOk, IfErr, IfOk, is_ok, if◌then◌else◌};
+ghost use Rattle.uring_base.specs.Loans.{loan_buf};
+ghost use Rattle.rent_engine.specs.Ops.{is_stranger, has_strange_loan, completed, step_of};
+ghost use Rattle.rent_engine.specs.Engines.{Pumped, finals_in};
+ghost use Rattle.rent_engine.specs.Faults.{ending, is_fault};
+
+use crate::engine::Engine;
+use crate::fault::EngineFault;
+use crate::ops::{OpDone, Step, TurnReport};
+use ring_traits::UserEnds;
+use std::alloc::Global;
+use uring_base::{Buf, Completion, Loan, cqueue};
+
+impl<R: UserEnds> Engine<R> {
+    /// Takes one completion. A final one resolves its operation, and another is a step of it. One
+    /// that no operation in flight may have is dropped.
+    pub fn complete(&mut self, completion: Completion) -> Result<Option<Step>, EngineFault>
+        ensures stranger { is_ok result ≡ not (is_stranger self.old.ops completion) }
+        ensures fault { IfErr result (λ fault. fault ≡ EngineFault.Stranger completion.user_data) }
+        ensures step { IfOk result (λ step. step ≡ step_of completion) }
+        ensures ops { self.new.ops ≡ completed self.old.ops completion }
+        ensures ring { self.new.ring ≡ self.old.ring }
+        ensures spare { self.old.spare ≤ self.new.spare }
+        ensures params { self.new.params ≡ self.old.params }
+    {
+        let Completion {
+            user_data: number,
+            result,
+            flags,
+            big: _,
+            loan,
+        } = completion;
+        let Some(flight) = self.operations.flight(number) else {
+            return Err(EngineFault::Stranger(number));
+        };
+        let more = cqueue::more(flags);
+        if is_strange_loan(flight.lent, number, !more, &loan) {
+            return Err(EngineFault::Stranger(number));
+        }
+        if more {
+            return Ok(Some(Step {
+                number,
+                result,
+                flags,
+            }));
+        }
+        let buf = buf_of(loan);
+        let outcome = OpDone { result, flags, buf };
+        self.operations.resolve(number, flight, outcome);
+        Ok(None)
+    }
+
+    /// Shows the partner what was offered, sees what it posted, and completes all that it reaps
+    /// until nothing is left or a stranger comes.
+    pub fn pump(&mut self, _alloc: Global) -> Result<TurnReport, EngineFault>
+        ensures pumped { (p : Pumped R.used R.lists R.room R.waiting self.old.ring self.new.ring self.old.ops self.new.ops (ending result))
+            × IfOk result (λ report. (report.taken ≡ 0) × (report.finals ≡ finals_in p.completions)) }
+        ensures none_left { OnOk result (R.waiting self.new.ring ≡ 0) }
+        ensures faults { IfErr result (λ fault. is_fault fault ≡ false) }
+        ensures spare { self.old.spare ≤ self.new.spare }
+        ensures params { self.new.params ≡ self.old.params }
+    {
+        self.ring.publish();
+        self.ring.refresh();
+        let mut finals = 0;
+        'reaps: while let Some(completion) = self.ring.reap() {
+            let step = self.complete(completion)?;
+            finals = one_more_if(finals, step.is_none());
+        }
+        Ok(TurnReport { taken: 0, finals })
+    }
+}
+
+fn one_more_if(count: u32, counts: bool) -> u32
+    ensures { result ≡ min (count + (if counts then 1 else 0)) (2 ^ 32 - 1) }
+{
+    if counts {
+        count.saturating_add(1)
+    } else {
+        count
+    }
+}
+
+fn buf_of(loan: Option<Loan>) -> Option<Buf>
+    ensures { result ≡ loan_buf loan }
+{
+    match loan {
+        None => None,
+        Some(loan) => Some(loan.buf),
+    }
+}
+
+/// Whether no operation that lent a buffer, or didn't, may get this loan back.
+fn is_strange_loan(lent: bool, number: u64, last: bool, loan: &Option<Loan>) -> bool
+    ensures { result ≡ has_strange_loan lent number last loan.now }
+{
+    match loan {
+        None => lent && last,
+        Some(loan) => !lent || loan.number != number || !last,
+    }
+}
