@@ -86,5 +86,4 @@ impl<R: UserEnds> Engine<R> {
             None => OpPoll::Lost(key),
         }
     }
-
 }

@@ -2,9 +2,8 @@
 
 ghost use Rattle.std.specs.Prelude.{◌≡◌};
 
-use std::fmt;
 use std::fmt::{Debug, Formatter, Write};
-use std::io;
+use std::{fmt, io};
 use thiserror::Error;
 use uring_base::Buf;
 use uring_base::errno::{EEXIST, EINVAL};

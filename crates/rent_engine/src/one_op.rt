@@ -11,12 +11,12 @@ use crate::engine::Engine;
 use crate::fault::StartFault;
 use crate::ops::{OpDone, OpKey, OpPoll};
 use crate::state::{OpState, Poll};
+use ring_traits::UserEnds;
 use std::alloc::Global;
 use std::marker::Model;
 use std::mem;
 use uring_base::Buf;
 use uring_base::squeue::{Entry, Flags};
-use ring_traits::UserEnds;
 
 /// An operation that is still to be offered: its number, if one was given, its entry, and the
 /// buffer that it lends.

@@ -7,11 +7,11 @@ ghost use Rattle.rent_engine.specs.OneOp.{flagged, numbered, stage_key, stage_of
 use crate::engine::Engine;
 use crate::one_op::{OneAnswer, OneOp};
 use crate::state::{OpState, Poll};
+use ring_traits::UserEnds;
 use std::alloc::Global;
 use std::marker::{Model, PhantomData};
 use uring_base::Buf;
 use uring_base::squeue::{Entry, Flags};
-use ring_traits::UserEnds;
 
 /// What a state of one operation gives: an output, by what became of its operation.
 pub trait OpKind {

@@ -4,8 +4,8 @@ ghost use Rattle.std.specs.Prelude.{◌≡◌, ◌+◌, ◌^◌, ◌<◌, ◌≤
 ghost use Rattle.std.specs.FinMap.{insert, len, remove};
 ghost use Rattle.rent_engine.specs.Ops.{no_ops, flight_at, done_at, knows, started, resolved_as, AreApart};
 
-use crate::ops::{Flight, OpDone, Lifecycle};
 use crate::numbered_slab::NumberedSlab;
+use crate::ops::{Flight, Lifecycle, OpDone};
 use std::alloc::{AllocError, Global};
 use std::marker::Model;
 

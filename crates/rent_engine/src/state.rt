@@ -4,8 +4,8 @@ ghost use Rattle.std.specs.Prelude.{◌≡◌};
 ghost use Rattle.rent_engine.specs.States.{is_pending};
 
 use crate::engine::Engine;
-use std::alloc::Global;
 use ring_traits::UserEnds;
+use std::alloc::Global;
 
 /// What a poll answers.
 #[derive(Drop)]

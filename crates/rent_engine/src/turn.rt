@@ -10,9 +10,9 @@ ghost use Rattle.rent_engine.specs.Turns.{Turned, Submitted};
 use crate::engine::Engine;
 use crate::fault::EngineFault;
 use crate::ops::TurnReport;
-use std::alloc::Global;
 use partner_traits::Partner;
 use ring_traits::{PartnerSide, UserEnds};
+use std::alloc::Global;
 use uring_submit::SubmitError;
 
 impl<R: UserEnds + PartnerSide> Engine<R> {

@@ -6,7 +6,7 @@ ghost use Rattle.rent_fs.specs.Entries.{no_flags, sync_entry};
 
 use crate::error::FsError;
 use crate::synced::synced;
-use rent_engine::{OpKind, OneAnswer, Op};
+use rent_engine::{OneAnswer, Op, OpKind};
 use std::alloc::Global;
 use uring_base::types::{Fixed, FsyncFlags};
 use uring_ops_file::Fsync;

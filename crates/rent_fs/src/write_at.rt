@@ -6,7 +6,7 @@ ghost use Rattle.rent_fs.specs.Entries.{write_entry};
 
 use crate::error::FsError;
 use crate::moved::moved;
-use rent_engine::{OpKind, OneAnswer, Op};
+use rent_engine::{OneAnswer, Op, OpKind};
 use std::alloc::Global;
 use uring_base::Buf;
 use uring_base::types::Fixed;

@@ -45,7 +45,8 @@ impl FeatureFlags {
     /// Waiting may be left out of the time of input and output.
     pub const NO_IOWAIT: FeatureFlags = FeatureFlags(1 << 17);
 
-    const FLAGS: &'static [Flag<FeatureFlags>] = named_flags!(FeatureFlags: SINGLE_MMAP, NODROP, SUBMIT_STABLE, RW_CUR_POS, CUR_PERSONALITY, FAST_POLL, POLL_32BITS, SQPOLL_NONFIXED, EXT_ARG, NATIVE_WORKERS, RSRC_TAGS, CQE_SKIP, LINKED_FILE, REG_REG_RING, RECVSEND_BUNDLE, MIN_TIMEOUT, NO_IOWAIT);
+    const FLAGS: &'static [Flag<FeatureFlags>] =
+        named_flags!(FeatureFlags: SINGLE_MMAP, NODROP, SUBMIT_STABLE, RW_CUR_POS, CUR_PERSONALITY, FAST_POLL, POLL_32BITS, SQPOLL_NONFIXED, EXT_ARG, NATIVE_WORKERS, RSRC_TAGS, CQE_SKIP, LINKED_FILE, REG_REG_RING, RECVSEND_BUNDLE, MIN_TIMEOUT, NO_IOWAIT);
 }
 
 impl Flags for FeatureFlags {

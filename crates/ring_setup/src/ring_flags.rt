@@ -17,7 +17,8 @@ impl SubmissionFlags {
     /// Work of the partner waits for an enter.
     pub const TASKRUN: SubmissionFlags = SubmissionFlags(1 << 2);
 
-    const FLAGS: &'static [Flag<SubmissionFlags>] = named_flags!(SubmissionFlags: NEED_WAKEUP, CQ_OVERFLOW, TASKRUN);
+    const FLAGS: &'static [Flag<SubmissionFlags>] =
+        named_flags!(SubmissionFlags: NEED_WAKEUP, CQ_OVERFLOW, TASKRUN);
 }
 
 impl Flags for SubmissionFlags {
@@ -54,7 +55,8 @@ impl CompletionRingFlags {
     /// No event is to be sent for a completion.
     pub const EVENTFD_DISABLED: CompletionRingFlags = CompletionRingFlags(1 << 0);
 
-    const FLAGS: &'static [Flag<CompletionRingFlags>] = named_flags!(CompletionRingFlags: EVENTFD_DISABLED);
+    const FLAGS: &'static [Flag<CompletionRingFlags>] =
+        named_flags!(CompletionRingFlags: EVENTFD_DISABLED);
 }
 
 impl Flags for CompletionRingFlags {

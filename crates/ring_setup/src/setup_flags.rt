@@ -40,7 +40,8 @@ impl SetupFlags {
     /// The submission ring has no index of its slots.
     pub const NO_SQARRAY: SetupFlags = SetupFlags(1 << 16);
 
-    const FLAGS: &'static [Flag<SetupFlags>] = named_flags!(SetupFlags: IOPOLL, SQPOLL, SQ_AFF, CQSIZE, CLAMP, ATTACH_WQ, R_DISABLED, SUBMIT_ALL, COOP_TASKRUN, TASKRUN_FLAG, SQE128, CQE32, SINGLE_ISSUER, DEFER_TASKRUN, NO_SQARRAY);
+    const FLAGS: &'static [Flag<SetupFlags>] =
+        named_flags!(SetupFlags: IOPOLL, SQPOLL, SQ_AFF, CQSIZE, CLAMP, ATTACH_WQ, R_DISABLED, SUBMIT_ALL, COOP_TASKRUN, TASKRUN_FLAG, SQE128, CQE32, SINGLE_ISSUER, DEFER_TASKRUN, NO_SQARRAY);
 }
 
 impl Flags for SetupFlags {

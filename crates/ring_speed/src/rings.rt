@@ -1,9 +1,9 @@
 //! A round through a pair of rings.
 
 use crate::{IN_ROUND, Passed};
+use ring_traits::PartnerSide;
 use uring_base::Completion;
 use uring_base::squeue::Entry;
-use ring_traits::PartnerSide;
 use uring_ring::IoUring;
 
 /// Pushes as many entries as fit, and publishes them.

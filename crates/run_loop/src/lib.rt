@@ -5,6 +5,7 @@ mod drive;
 mod entries;
 mod flights;
 mod job_op;
+mod job_table;
 mod laws;
 mod offers;
 mod polls;
@@ -12,7 +13,6 @@ mod round;
 mod run;
 mod slot;
 mod starts;
-mod job_table;
 
 pub use run::run_jobs;
 pub use uring_model::{Job, JobKind, Link, Outcome, Report, RunFault};

@@ -12,8 +12,8 @@ ghost use Rattle.run_loop.specs.Steps.{mark_bits, IsBegun};
 ghost use Rattle.run_loop.specs.Told.{reply_for};
 ghost use Rattle.run_loop.specs.declared.slot.Reply.TheVariants as replies;
 
-use bitflags::Flags as _;
 use crate::job_op::JobOp;
+use bitflags::Flags as _;
 use rent_engine::{Engine, OpState, Poll, StartFault};
 use rent_fs::File;
 use ring_traits::UserEnds;

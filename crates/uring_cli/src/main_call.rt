@@ -11,8 +11,8 @@ ghost use Rattle.uring_cli.specs.Ends.{Reads, Runs, Writes, IsGoodCall};
 use crate::input::read_input;
 use crate::perform::perform;
 use crate::words::{Word, options_of};
-use std::alloc::Global;
 use partner_traits::{Partner, Seedable};
+use std::alloc::Global;
 use uring_streams::{Sink, Source, write_all};
 use uring_text::Status;
 

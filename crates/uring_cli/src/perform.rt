@@ -12,10 +12,10 @@ ghost use Rattle.uring_cli.specs.Seeds.{IsSeeded, IsPartSeeded};
 ghost use Rattle.uring_cli.specs.Runs.{Performed, Failed, is_partner_fault};
 
 use crate::words::Options;
-use std::alloc::Global;
-use uring_base::Buf;
 use partner_traits::{PartnerError, Seedable};
 use run_loop::run_jobs;
+use std::alloc::Global;
+use uring_base::Buf;
 use uring_text::{Script, Seed, Status, report_text};
 
 /// Puts the files in, in their order. After a refusal those before it are in.

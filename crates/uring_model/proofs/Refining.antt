@@ -196,7 +196,7 @@ module _ {W V : Type 0} (m : Machine W) (n : Machine V) (view : W → V) (Plain 
   turn_seen room ts a f q =
       let b = take_all a ts in
       let s : Same (settle_turn m room b) (turn n ts room (look a)) =
-        subst (λ c. Same (settle_turn m room b) (settle_turn n room c)) (take_seen ts a) (turn_same room b (takes_fine ts a f q)) in
+      subst (λ c. Same (settle_turn m room b) (settle_turn n room c)) (take_seen ts a) (turn_same room b (takes_fine ts a f q)) in
       (s.posts, s.state, s.fine)
 
 pub world_laws : {W : Type 0} (m : Machine W) (view : W → Files) (Plain : W → Type 0) → Refines m file_machine view Plain IsJobEntry → WorldLaws m view Plain

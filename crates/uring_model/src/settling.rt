@@ -12,8 +12,8 @@ use crate::machine::{Answered, perform};
 use crate::operation::Operation;
 use crate::rows::{Row, can_mark, is_severed};
 use std::alloc::{AllocError, Global};
-use uring_base::errno::ECANCELED;
 use uring_base::Buf;
+use uring_base::errno::ECANCELED;
 
 /// What a settling answers, and what it leaves in the job's buffer.
 #[derive(Drop)]

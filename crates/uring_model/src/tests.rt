@@ -33,12 +33,7 @@ fn post(job: u64, answer: i32) -> Event {
     }
 }
 
-fn run(
-    alloc: Global,
-    files: Files,
-    jobs: Vec<Job>,
-    journal: &[Event],
-) -> Result<Replayed, Fail> {
+fn run(alloc: Global, files: Files, jobs: Vec<Job>, journal: &[Event]) -> Result<Replayed, Fail> {
     if !have_counts(&jobs) {
         return Err(Fail::from(Trouble::TooLong));
     }
@@ -50,10 +45,12 @@ fn run(
 
 fn is_outcome(outcome: &Option<Outcome>, answer: i32, bytes: &[u8]) -> bool {
     match outcome {
-        Some(Outcome {
-            result,
-            buf: Some(buf),
-        }) => *result == answer && buf.as_slice() == bytes,
+        Some(
+            Outcome {
+                result,
+                buf: Some(buf),
+            },
+        ) => *result == answer && buf.as_slice() == bytes,
         _ => false,
     }
 }
@@ -102,14 +99,20 @@ fn each_call(rt: HostRuntime) -> Result<(), Fail> {
 fn parts_of_runs(rt: HostRuntime) -> Result<(), Fail> {
     let alloc = rt.alloc();
     let nop = job(JobKind::Nop, Link::Free);
-    let jobs = vec![in alloc; nop, job(JobKind::Nop, Link::Free), job(JobKind::Nop, Link::Free)]?;
+    let jobs = vec![in alloc;
+        nop,
+        job(JobKind::Nop, Link::Free),
+        job(JobKind::Nop, Link::Free),
+    ]?;
     let journal = [Event::Take(0), Event::Take(1), post(1, 0)];
     let replayed = run(alloc, Files::new(alloc), jobs, &journal)?;
     assert!(rt; !replayed.is_whole());
     let outcomes = replayed.into_outcomes(alloc)?;
     assert_eq!(rt; outcomes.len(), 3);
     assert!(rt; outcomes[0].is_none());
-    assert!(rt; matches!(&outcomes[1], Some(outcome) if outcome.result == 0 && outcome.buf.is_none()));
+    assert!(rt;
+        matches!(&outcomes[1], Some(outcome) if outcome.result == 0 && outcome.buf.is_none())
+    );
     assert!(rt; outcomes[2].is_none());
     Ok(())
 }
@@ -118,7 +121,10 @@ fn parts_of_runs(rt: HostRuntime) -> Result<(), Fail> {
 #[test]
 fn texts(rt: HostRuntime) -> Result<(), Fail> {
     let alloc = rt.alloc();
-    assert_eq!(rt; format!(in alloc; "{}", RunFault::BadSize)?, "bad ring size");
+    assert_eq!(rt;
+        format!(in alloc; "{}", RunFault::BadSize)?,
+        "bad ring size"
+    );
     assert_eq!(rt; format!(in alloc; "{}", RunFault::BadJob(3))?, "bad job 3");
     let stranger = format!(in alloc; "{}", RunFault::Stranger(18446744073709551615))?;
     assert_eq!(rt;
@@ -126,7 +132,10 @@ fn texts(rt: HostRuntime) -> Result<(), Fail> {
         "partner posted for job 18446744073709551615 what was not due"
     );
     assert_eq!(rt; format!(in alloc; "{}", RunFault::Stalled)?, "stalled");
-    assert_eq!(rt; format!(in alloc; "{}", RunFault::PartnerFault)?, "partner fault");
+    assert_eq!(rt;
+        format!(in alloc; "{}", RunFault::PartnerFault)?,
+        "partner fault"
+    );
     assert_eq!(rt; format!(in alloc; "{}", RunFault::NoMemory)?, "no memory");
     Ok(())
 }

@@ -4,10 +4,10 @@ ghost use Rattle.std.specs.Prelude.{◌≡◌, [], IfOk};
 
 use crate::logging::{event_at, push_known};
 use partner_traits::{Counts, EnterCall, Partner, PartnerError, Seedable};
+use ring_traits::PartnerSide;
 use std::alloc::{AllocError, Global};
 use uring_base::cqueue::more;
 use uring_base::{Buf, Completion, Event, Loan, LogEvent};
-use ring_traits::PartnerSide;
 
 #[cfg(test)]
 mod tests;

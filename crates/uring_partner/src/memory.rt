@@ -8,11 +8,11 @@ use crate::plan::pass_enter;
 use crate::scan::chosen_place;
 use crate::settle::settle;
 use partner_traits::{Counts, EnterCall, Partner, PartnerError, Seedable};
+use ring_traits::PartnerSide;
 use std::alloc::{AllocError, Global};
 use std::collections::VecDeque;
 use uring_base::{Buf, Completion, Event, Loan, LogEvent};
 use uring_model::{Files, Pending, has_link};
-use ring_traits::PartnerSide;
 
 #[cfg(test)]
 mod tests;

@@ -11,7 +11,7 @@ use crate::chain::{can_mark, cuts_next};
 use std::alloc::{AllocError, Global};
 use std::collections::VecDeque;
 use uring_base::Loan;
-use uring_model::{Answered, Operation, Files, Pending, perform, operation_of};
+use uring_model::{Answered, Files, Operation, Pending, operation_of, perform};
 
 /// What a settling answers, whether it cuts the next entry of its chain, and a copy of the loan
 /// that it posts.

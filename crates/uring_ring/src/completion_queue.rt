@@ -129,8 +129,9 @@ impl<C> CompletionQueue<'_, C> {
     pub fn eventfd_disabled(&self) -> bool
         ensures { result ≡ shows_partner (completion_words_at self.now).flags EVENTFD_DISABLED }
     {
-        CompletionRingFlags::from_bits_retain(self.ring.words.flags)
-            .contains(CompletionRingFlags::EVENTFD_DISABLED)
+        CompletionRingFlags::from_bits_retain(self.ring.words.flags).contains(
+            CompletionRingFlags::EVENTFD_DISABLED,
+        )
     }
 
     /// Asks that no event is sent for a completion.

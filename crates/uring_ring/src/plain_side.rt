@@ -3,8 +3,8 @@
 ghost use Rattle.std.specs.Prelude.{◌≡◌, ◌≤◌, length};
 
 use crate::completion_queue::CompletionQueue;
-use ring_traits::{PartnerSide, Rings};
 use crate::submission_queue::SubmissionQueue;
+use ring_traits::{PartnerSide, Rings};
 use uring_base::squeue::Entry;
 use uring_base::{Completion, Taken};
 use uring_large::cqueue;

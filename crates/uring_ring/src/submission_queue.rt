@@ -153,7 +153,9 @@ impl<S> SubmissionQueue<'_, S> {
     pub fn need_wakeup(&self) -> bool
         ensures { result ≡ shows (submission_words_at self.now).flags NEED_WAKEUP }
     {
-        SubmissionFlags::from_bits_retain(self.ring.words.flags).contains(SubmissionFlags::NEED_WAKEUP)
+        SubmissionFlags::from_bits_retain(self.ring.words.flags).contains(
+            SubmissionFlags::NEED_WAKEUP,
+        )
     }
 
     /// The same. In the Rust crate it leaves a fence between two threads to the caller; here one
@@ -168,7 +170,9 @@ impl<S> SubmissionQueue<'_, S> {
     pub fn cq_overflow(&self) -> bool
         ensures { result ≡ shows (submission_words_at self.now).flags CQ_OVERFLOW }
     {
-        SubmissionFlags::from_bits_retain(self.ring.words.flags).contains(SubmissionFlags::CQ_OVERFLOW)
+        SubmissionFlags::from_bits_retain(self.ring.words.flags).contains(
+            SubmissionFlags::CQ_OVERFLOW,
+        )
     }
 
     /// Whether work of the partner waits for an enter.

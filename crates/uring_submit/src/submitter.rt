@@ -10,10 +10,10 @@ ghost use Rattle.uring_submit.specs.Submits.{params_of, Submits};
 use crate::error::SubmitError;
 use crate::flags::EnterFlags;
 use bitflags::Flags;
-use std::alloc::Global;
 use partner_traits::{EnterCall, Partner};
 use ring_setup::{Parameters, SubmissionFlags};
 use ring_traits::PartnerSide;
+use std::alloc::Global;
 
 /// Lets a partner enter, with the values that a ring's parameters and flags ask for.
 #[derive(Clone, Copy, PartialEq, Eq, Debug)]

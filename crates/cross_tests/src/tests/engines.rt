@@ -2,6 +2,7 @@ use rent_engine::{
     Engine, EngineFault, OneAnswer, OneOp, OpDone, OpKey, OpPoll, OpState, Poll, StartFault, Step,
     TurnReport,
 };
+use ring_traits::UserEnds;
 use std::alloc::{AllocError, Global};
 use std::process::Abort;
 use std::test::Fail;
@@ -10,7 +11,6 @@ use uring_base::types::Fixed;
 use uring_base::{Buf, Completion, Loan};
 use uring_ops_file::{Nop, Read};
 use uring_partner::{MemoryPartner, Seedable};
-use ring_traits::UserEnds;
 use uring_ring::{IoUring, SetupError};
 
 fn engine_of(alloc: Global, entries: u32) -> Result<Engine<IoUring>, SetupError> {

@@ -1,5 +1,5 @@
-use rent_fs::{File, FsError, ReadAt};
 use rent_engine::{Engine, OpState, Poll};
+use rent_fs::{File, FsError, ReadAt};
 use std::alloc::Global;
 use std::process::Abort;
 use std::test::Fail;

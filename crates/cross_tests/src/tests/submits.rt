@@ -1,14 +1,14 @@
 ghost use Rattle.std.specs.Prelude.{refl};
 
-use uring_submit::{SubmitError, Submitter};
+use ring_traits::{PartnerSide, UserEnds};
 use std::alloc::Global;
 use std::process::Abort;
 use std::test::Fail;
 use uring_base::Event;
 use uring_base::squeue::Entry;
 use uring_partner::{Counts, EnterCall, MemoryPartner, Partner, PartnerError};
-use ring_traits::{PartnerSide, UserEnds};
 use uring_ring::IoUring;
+use uring_submit::{SubmitError, Submitter};
 
 /// A partner in memory, and the call of its last enter.
 #[derive(Drop)]

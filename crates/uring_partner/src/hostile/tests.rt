@@ -1,12 +1,12 @@
 //! A script, by hand.
 
 use crate::{EnterCall, HostilePartner, LoanPlan, Partner, Scripted, Seedable};
+use ring_traits::UserEnds;
 use std::process::Abort;
 use std::test::Fail;
 use uring_base::squeue::Entry;
 use uring_base::types::{Fixed, UseTarget};
 use uring_base::{Buf, Event, Loan};
-use ring_traits::UserEnds;
 use uring_ring::IoUring;
 
 const CALL: EnterCall = EnterCall {

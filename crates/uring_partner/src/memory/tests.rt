@@ -1,13 +1,13 @@
 //! Turns over a small pair of rings, by hand.
 
 use crate::{EnterCall, MemoryPartner, Partner, PartnerError, Seedable};
+use ring_traits::UserEnds;
 use std::alloc::{AllocError, Global};
 use std::process::Abort;
 use std::test::Fail;
 use uring_base::squeue::{Entry, Flags};
 use uring_base::types::{Fixed, UseTarget};
 use uring_base::{Buf, Event, Loan};
-use ring_traits::UserEnds;
 use uring_ring::IoUring;
 
 /// Offers an entry under a number.

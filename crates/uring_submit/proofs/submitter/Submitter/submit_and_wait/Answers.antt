@@ -38,7 +38,7 @@ returns-in_err-taken-clause-submits g c =
       c.published-published.result,
       p.told,
       subst (λ d. Submits g.P.Partner.machine g.P.Partner.log g.P.Partner.state g.Q.Rings.lists g.Q.PartnerSide.ready g.Q.PartnerSide.space g.Q.PartnerSide.moved d c.published-published.result c.args.partner.now c.enter.new.self c.args.side.now c.enter.new.side c.from_residual.result) (decided _ _ c.published-published.result c.args.want c.from_bits_retain-shown.result.0 _ (params_of c.args.self.now) c.in-Some.is c.decide.ensures shown)
-      (failed g.P.Partner.machine g.P.Partner.log g.P.Partner.state g.Q.Rings.lists g.Q.PartnerSide.ready g.Q.PartnerSide.space g.Q.PartnerSide.moved c.in-Some.call c.args.partner.now c.enter.new.self c.args.side.now c.enter.new.side e.0 c.from_residual.result c.from_residual.ensures.0
+          (failed g.P.Partner.machine g.P.Partner.log g.P.Partner.state g.Q.Rings.lists g.Q.PartnerSide.ready g.Q.PartnerSide.space g.Q.PartnerSide.moved c.in-Some.call c.args.partner.now c.enter.new.self c.args.side.now c.enter.new.side e.0 c.from_residual.result c.from_residual.ensures.0
           (record { sides = g.met.Q.PartnerSide.moved_then _ _ _ [] _ [] _ p.moved e.1.sides; logs = e.1.logs; states = e.1.states })
           (subst (λ l. IsCall false c.in-Some.call.to_submit l e.0) at e.2)),
     )
