@@ -6,3 +6,4 @@ pub mod Settled
 pub mod Turns
 pub mod Lowered
 pub mod Logged
+pub mod Played

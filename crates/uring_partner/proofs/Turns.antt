@@ -129,20 +129,21 @@ is_zero n y e h = subst (λ k. IsRoom k y) e h
 pub room_gone_by : (kept : Completion → Completion) (x y : Option Lists) (cs : List Completion) → WhereTold (λ l m. Moves kept l (took (map Posted cs)) (posted (map Posted cs)) m) x y → Fits y → (n : ℕ) → n ≡ 0 → IsRoom n y → IsRoom (length cs) x
 room_gone_by kept x y cs w f n e h = subst (λ l. IsRoom (length l) x) (posted_none cs) (room_gone kept x y (took (map Posted cs)) (posted (map Posted cs)) w f (is_zero n y e h))
 
-pub room_kept : (kept : Completion → Completion) (x y : Option Lists) (ts : List Taken) (cs : List Completion) (n : ℕ) (a : PartnerState) → WhereTold (λ l m. Moves kept l ts cs m) x y → cs ≡ [] → AllRoom n a y → AllRoom n a x
-room_kept kept None y ts cs n a w e h = tt
-room_kept kept (Some l) None ts cs n a w e h = absurd (w tt)
-room_kept kept (Some l) (Some m) ts cs n a w e h =
+-- what holds of the room after takes alone held of it before
+pub room_kept : (kept : Completion → Completion) (x y : Option Lists) (ts : List Taken) (cs : List Completion) (P : ℕ → Type 0) → WhereTold (λ l m. Moves kept l ts cs m) x y → cs ≡ [] → IfSome y (λ l. P (room_of l)) → IfSome x (λ l. P (room_of l))
+room_kept kept None y ts cs P w e h = tt
+room_kept kept (Some l) None ts cs P w e h = absurd (w tt)
+room_kept kept (Some l) (Some m) ts cs P w e h =
     let same : room_of m ≡ room_of l = omega (arith, counted kept l m ts cs w, ap length e, w.held, w.completion_capacity) in
-    h ∙ ap (λ k. settle_turn k a) same
+    subst P same h
 
-posted_takes : (ts : List Taken) → posted (map Took ts) ≡ []
+pub posted_takes : (ts : List Taken) → posted (map Took ts) ≡ []
 posted_takes [] = refl
 posted_takes (t ∷ ts) = posted_takes ts
 
 -- the room is the same before the takes of a turn and after them
 pub room_mid : (kept : Completion → Completion) (x y : Option Lists) (us ts : List Taken) (n : ℕ) (b a : PartnerState) → WhereTold (λ l m. Moves kept l us (posted (map Took ts)) m) x y → b ≡ a → AllRoom n b y → AllRoom n a x
-room_mid kept x y us ts n b a w e h = room_kept kept x y us (posted (map Took ts)) n a w (posted_takes ts) (subst (λ z. AllRoom n z y) e h)
+room_mid kept x y us ts n b a w e h = room_kept kept x y us (posted (map Took ts)) (λ r. settle_turn n a ≡ settle_turn r a) w (posted_takes ts) (subst (λ z. AllRoom n z y) e h)
 
 pub all_room : (n : ℕ) (a : PartnerState) (x : Option Lists) → IsRoom n x → AllRoom n a x
 all_room n a None h = tt

@@ -1,7 +1,7 @@
 //! A partner that posts what its script says.
 
-ghost use Rattle.std.specs.Prelude.{◌≡◌, [], IfOk, OnOk, OnErr};
-ghost use Rattle.uring_partner.specs.Script.{carried, left_held};
+ghost use Rattle.std.specs.Prelude.{◌≡◌, ◌<◌, [], IfOk, IfSome, OnOk, OnErr, vec_len};
+ghost use Rattle.uring_partner.specs.Script.{carried, left_held, place_held};
 
 use crate::logging::{event_at, push_known};
 use partner_traits::{Counts, EnterCall, Partner, PartnerError, Seedable};
@@ -248,11 +248,18 @@ fn take_held(
     ensures held { OnOk result (held.new.items ≡ left_held number LoanPlan.Lent held.old.items) }
     ensures err { OnErr result (held.new.items ≡ held.old.items) }
 {
-    let Some(place) = held.iter().position(|loan| loan.number == number) else {
+    let Some(place) = place_held(held, number) else {
         return Ok((None, None));
     };
     let copy = held[place].try_clone(alloc)?;
     Ok((Some(held.remove(place)), Some(copy)))
+}
+
+fn place_held(held: &Vec<Loan>, number: u64) -> Option<usize>
+    ensures place { result ≡ place_held number held.now.items }
+    ensures inside { IfSome result (λ place. place < vec_len held.now) }
+{
+    held.iter().position(|loan| loan.number == number)
 }
 
 fn no_bytes(alloc: Global, number: u64) -> Loan
