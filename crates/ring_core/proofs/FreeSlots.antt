@@ -1,7 +1,6 @@
 -- The slot of the next put is not in use.
 use Rattle.std.proofs.Common.{◌≡◌, ◌≢◌, ℕ, ◌+◌, ◌-◌, ◌%◌, ◌<◌, List, length, Option, sym, ap, ◌∙◌, arith}
-use Rattle.ring_core.specs.declared.slots.Slots.{Slots}
-use Rattle.ring_core.specs.Held.{window, RingPositions, IsSound, Held, held_in}
+use Rattle.ring_core.specs.Held.{window, RingPositions, IsSound, held_in}
 use Rattle.ring_core.specs.Positions.{gap, slot_of}
 use Rattle.ring_core.specs.Slots.{held_of, held-fits, slots_in_use}
 use Rattle.ring_core.specs.Laws.{NextSlotIsFree, SlotsSuffice}
