@@ -1,10 +1,9 @@
 -- Counts are rounded up to the least power of two that is large enough.
-use Rattle.std.proofs.Common.{◌≡◌, ℕ, ◌*◌, ◌+◌, ◌^◌, ◌<◌, ◌≤◌, ◌&&◌, zero, suc, Bool, true, false, sym, refl, ap, ◌∙◌, subst, inl, inr, arith, nat_le, nat_lt, if◌then◌else◌, pow_mono}
-use Rattle.std.proofs.Math.Nat.{pow-suc, mul_assoc}
-use Rattle.uring_base.specs.Sizes.{up_from, rounded_up, is_valid_size}
+use Rattle.std.proofs.Common.{◌≡◌, ℕ, ◌*◌, ◌+◌, ◌^◌, ◌≤◌, zero, suc, sym, refl, ap, ◌∙◌, subst, inl, inr, arith, pow_mono}
+use Rattle.std.proofs.Math.Nat.{pow-suc}
+use Rattle.uring_base.specs.Sizes.{up_from}
 use Rattle.ring_core.proofs.PositionLemmas.{le_or_lt}
-use Rattle.ring_setup.specs.declared.settings.Settings.{Settings}
-use Rattle.ring_setup.specs.Setup.{asked_entries, asked_completions, is_buildable}
+use Rattle.ring_setup.specs.Setup.{asked_entries, asked_completions}
 use Rattle.ring_setup.specs.Laws.{IsLeastPower, RoundsToLeastPowers, SizesAreLeastPowers}
 use Rattle.ring_setup.proofs.SizeLemmas.{at_once, once_more, valid_entries, valid_completions}
 
