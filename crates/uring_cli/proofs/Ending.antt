@@ -7,7 +7,7 @@ use Rattle.uring_model.specs.declared.jobs.RunFault.TheVariants as faults
 use Rattle.uring_model.specs.Jobs.{model_jobs}
 use Rattle.uring_model.specs.Machine.{Files}
 use Rattle.uring_model.specs.Schedule as schedule
-use Rattle.uring_model.specs.Refines.{IsIdle}
+use Rattle.uring_model.specs.Refines.{IsPlainAndIdle}
 use Rattle.partner_traits.specs.Calls.{Puts}
 use Rattle.uring_text.specs.declared.script.Seed.{Seed}
 use Rattle.uring_cli.specs.Seeds.{with_files}
@@ -52,14 +52,14 @@ plain_files put Plain keeps (seed ∷ seeds) w h = plain_files put Plain keeps s
 
 -- over a partner that began idle, the run explains what it did
 explained : {W : Type 0} (mach : schedule.Machine W) (view : W → Files) (Plain : W → Type 0) (put : ℕ → List ℕ → W → W) (puts : Puts view Plain put) {P : Type 0} (log : P → Option (List LogEvent)) (state : P → Option (schedule.State W)) (plan : P → List ℕ) (told : Told) (options : Options) (before after : P) (answer : Result Report RunFault) (a : schedule.State W)
-    → (p : Performed mach view Plain put log state plan told options before after answer) → state before ≡ Some a → IsIdle Plain a → (b : schedule.State W) × Explains view Plain (model_jobs told.jobs) (seeded put told.files told.choices a) p.says.ran.moves b answer
+    → (p : Performed mach view Plain put log state plan told options before after answer) → state before ≡ Some a → IsPlainAndIdle Plain a → (b : schedule.State W) × Explains view Plain (model_jobs told.jobs) (seeded put told.files told.choices a) p.says.ran.moves b answer
 explained mach view Plain put puts log state plan told options before after answer a p tells idle =
     let given = subst (λ s. StateBecomes s (seeded put told.files told.choices) (state p.given)) tells p.seeds.gains in
     let m = p.says.memory (seeded put told.files told.choices a) given (record { pending = idle.pending; tail = idle.tail; plain = plain_files put Plain puts.plain told.files a.world idle.plain }) in
     (m.0, m.2)
 
 good_end : {W : Type 0} (mach : schedule.Machine W) (view : W → Files) (Plain : W → Type 0) (put : ℕ → List ℕ → W → W) (puts : Puts view Plain put) {P : Type 0} (log : P → Option (List LogEvent)) (state : P → Option (schedule.State W)) (plan : P → List ℕ) (told : Told) (options : Options) (before after : P) (a : schedule.State W) (status : Status)
-    → Failed mach view Plain put log state plan told options before after status → IsValidRun options.sq options.cq told.jobs → state before ≡ Some a → IsIdle Plain a → is_partner_fault status ≡ false → (status ≡ ends.Done) ⊎ (status ≡ ends.NoMemory)
+    → Failed mach view Plain put log state plan told options before after status → IsValidRun options.sq options.cq told.jobs → state before ≡ Some a → IsPlainAndIdle Plain a → is_partner_fault status ≡ false → (status ≡ ends.Done) ⊎ (status ≡ ends.NoMemory)
 good_end mach view Plain put puts log state plan told options before after a ends.BadSize failed valid tells idle unplanned = let x = failed.refused in let y = nothing_refused options told valid in absurd cc
 good_end mach view Plain put puts log state plan told options before after a (ends.BadJob n) failed valid tells idle unplanned = let x = failed.refused in let y = nothing_refused options told valid in absurd cc
 good_end mach view Plain put puts log state plan told options before after a (ends.Stranger u) failed valid tells idle unplanned =

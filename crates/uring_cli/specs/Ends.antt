@@ -6,7 +6,7 @@ use Rattle.uring_base.specs.Causes.{Rose}
 use Rattle.uring_model.specs.declared.jobs.Report.{Report}
 use Rattle.uring_model.specs.Machine.{Files}
 use Rattle.uring_model.specs.Schedule as schedule
-use Rattle.uring_model.specs.Refines.{IsIdle}
+use Rattle.uring_model.specs.Refines.{IsPlainAndIdle}
 use Rattle.run_loop.specs.Runs.{IsValidRun}
 use Rattle.uring_streams.specs.Bytes.{AppendsFront}
 use Rattle.uring_streams.specs.Inputs.{input_limit}
@@ -87,7 +87,7 @@ pub record IsGoodCall {W : Type 0} (Plain : W → Type 0) (options : Options) (t
   pub told : Told
   pub script : script_of (lines_of text) ≡ Some told
   pub valid : IsValidRun options.sq options.cq told.jobs
-  pub idle : IsIdle Plain before
+  pub idle : IsPlainAndIdle Plain before
   pub unplanned : plan ≡ []
   pub reads : read' ≡ read
   pub read_room : read < 2 ^ 64 - 1

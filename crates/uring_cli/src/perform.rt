@@ -4,7 +4,7 @@ ghost use Rattle.std.specs.Prelude.{◌≡◌, ◌<◌, [], false, IfOk, IfErr, 
 ghost use Rattle.uring_base.specs.Causes.{HasCause};
 ghost use Rattle.uring_model.specs.declared.jobs.Report.{Report};
 ghost use Rattle.partner_traits.specs.Calls.{is_fault};
-ghost use Rattle.run_loop.specs.Rounds.{fault_of};
+ghost use Rattle.run_loop.specs.Rounds.{run_fault_of};
 ghost use Rattle.uring_text.specs.Report.{text_of};
 ghost use Rattle.uring_text.specs.Script.{told_by};
 ghost use Rattle.uring_text.specs.Status.{status_of};
@@ -73,7 +73,7 @@ fn seed_all<P: Seedable>(
 
 /// The status of a partner that failed.
 fn status_after(error: PartnerError) -> Status
-    ensures { result ≡ status_of (fault_of error) }
+    ensures { result ≡ status_of (run_fault_of error) }
 {
     match error {
         PartnerError::Fault(_) => Status::PartnerFault,
