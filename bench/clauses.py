@@ -21,9 +21,9 @@ import sys
 TOP = pathlib.Path(__file__).resolve().parent.parent
 CITED = re.compile(r"`([A-Za-z_][\w:]*): (\w+(?:, \w+)*)`")
 BLOCK = re.compile(r"(?:pub(?:\(crate\))? )?(impl|trait|struct|enum)\b(.*)")
-FUNCTION = re.compile(r"\s*(?:pub(?:\(crate\))? )?(?:const )?fn (\w+)")
-CLAUSE = re.compile(r"\s+ensures\*?\s*(\w+)?\s*\{")
-GHOST = re.compile(r"\s+ghost (?!use\b)(\w+)")
+FUNCTION = re.compile(r"( *)(?:pub(?:\(crate\))? )?(?:const )?fn (\w+)")
+CLAUSE = re.compile(r"( +)ensures\*?\s*(\w+)?\s*\{")
+GHOST = re.compile(r"    ghost (?!use\b)(\w+)")
 
 
 class Block:
@@ -60,7 +60,7 @@ def opened(crate, kind, header):
 def blocks_of(crate, file):
     """The blocks of a source file, which is laid out by rt fmt: items begin at the line's start."""
     free = Block(crate)
-    blocks, block, function = [free], free, None
+    blocks, block, function, indent = [free], free, None, ""
     lines = iter(file.read_text(encoding="utf-8").splitlines())
     for line in lines:
         begins = BLOCK.match(line)
@@ -68,15 +68,17 @@ def blocks_of(crate, file):
             header = begins.group(2)
             while "{" not in header and ";" not in header:
                 header += " " + next(lines).strip()
-            block = opened(crate, begins.group(1), header)
-            blocks.append(block)
+            blocks.append(opened(crate, begins.group(1), header))
+            block = free if header.endswith((";", "}")) else blocks[-1]
         elif line.startswith("}"):
             block = free
         elif FUNCTION.match(line):
-            name = FUNCTION.match(line).group(1)
+            indent, name = FUNCTION.match(line).groups()
             function = block.functions.setdefault(name, set())
         elif CLAUSE.match(line):
-            function.add(CLAUSE.match(line).group(1) or "ensures")
+            deeper, name = CLAUSE.match(line).groups()
+            if deeper == indent + "    ":  # else it is a closure's
+                function.add(name or "ensures")
         elif GHOST.match(line):
             block.ghosts.add(GHOST.match(line).group(1))
     return blocks
