@@ -3,8 +3,8 @@ use Rattle.std.proofs.lemmas.Result.{err_from_is_err_and}
 use Rattle.uring_text.specs.Script.{told_by}
 use Rattle.uring_text.specs.Status.{status_of}
 use Rattle.uring_cli.specs.Runs.{Failed}
-use Rattle.uring_cli.proofs.Performing.{performed, failed}
-use Rattle.uring_cli.proofs.perform.perform.Goals as goal
+use Rattle.uring_cli.proofs.Executing.{executed, failed}
+use Rattle.uring_cli.proofs.execute.execute.Goals as goal
 
 pub returns-in_err-report-clause-err : goal.returns-in_err-report-clause-err
 returns-in_err-report-clause-err g c =
@@ -21,7 +21,7 @@ returns-in_err-report_text-clause-err g c =
     (sym (p.2 ∙ ap status_of c.in_err-report_text.ensures))
     (inr (
       Ok c.in_ok-report.report,
-      performed g.P.Partner.machine g.P.Partner.view g.P.Partner.Plain g.P.Partner.put g.P.Partner.log g.P.Partner.state g.P.Partner.plan (told_by c.args.script) c.args.options _ c.seed_all.new.partner _ c.in_ok-report.report c.in_default.ensures.ok run.refused run.run,
+      executed g.P.Partner.machine g.P.Partner.view g.P.Partner.Plain g.P.Partner.put g.P.Partner.log g.P.Partner.state g.P.Partner.plan (told_by c.args.script) c.args.options _ c.seed_all.new.partner _ c.in_ok-report.report c.in_default.ensures.ok run.refused run.run,
     )))
 
 pub returns-clause-ok : goal.returns-clause-ok
@@ -29,5 +29,5 @@ returns-clause-ok g c =
     let run = c.in_ok-report.ensures in (
       c.in_ok-report.report,
       c.in_ok-report_text.ensures,
-      performed g.P.Partner.machine g.P.Partner.view g.P.Partner.Plain g.P.Partner.put g.P.Partner.log g.P.Partner.state g.P.Partner.plan (told_by c.args.script) c.args.options _ c.seed_all.new.partner _ c.in_ok-report.report c.in_default.ensures.ok run.refused run.run,
+      executed g.P.Partner.machine g.P.Partner.view g.P.Partner.Plain g.P.Partner.put g.P.Partner.log g.P.Partner.state g.P.Partner.plan (told_by c.args.script) c.args.options _ c.seed_all.new.partner _ c.in_ok-report.report c.in_default.ensures.ok run.refused run.run,
     )

@@ -9,7 +9,7 @@ ghost use Rattle.uring_text.specs.Report.{text_of};
 ghost use Rattle.uring_text.specs.Script.{told_by};
 ghost use Rattle.uring_text.specs.Status.{status_of};
 ghost use Rattle.uring_cli.specs.Seeds.{IsSeeded, IsPartSeeded};
-ghost use Rattle.uring_cli.specs.Runs.{Performed, Failed, is_partner_fault};
+ghost use Rattle.uring_cli.specs.Runs.{Executed, Failed, ends_in_partner_fault};
 
 use crate::words::Options;
 use partner_traits::{PartnerError, Seedable};
@@ -55,7 +55,7 @@ fn seed_choices<P: Seedable>(
 }
 
 /// Puts a script's files in, and then its choices.
-fn seed_all<P: Seedable>(
+pub fn seed_all<P: Seedable>(
     alloc: Global,
     partner: &mut P,
     files: Vec<Seed>,
@@ -82,7 +82,7 @@ fn status_after(error: PartnerError) -> Status
 }
 
 /// Puts the script's files and choices in, runs its jobs, and gives the report as text.
-pub fn perform<P: Seedable>(
+pub fn execute<P: Seedable>(
     alloc: Global,
     options: Options,
     script: Script,
@@ -90,10 +90,10 @@ pub fn perform<P: Seedable>(
 ) -> Result<Buf, Status>
     requires { 0 < options.idle }
     ensures ok { IfOk result (λ text. (report : Report) × (text ≡ text_of report.outcomes.items report.journal.items)
-        × Performed P.machine P.view P.Plain P.put P.log P.state P.plan (told_by script) options partner.old partner.new (Ok report)) }
+        × Executed P.machine P.view P.Plain P.put P.log P.state P.plan (told_by script) options partner.old partner.new (Ok report)) }
     ensures err { IfErr result (λ status. Failed P.machine P.view P.Plain P.put P.log P.state P.plan (told_by script) options partner.old partner.new status) }
-    ensures cause { HasCause is_partner_fault (P.faults partner.old) (P.faults partner.new) result }
-    ensures unplanned { IfSome (P.state partner.old) (λ _. P.plan partner.old ≡ [] → IfErr result (λ e. is_partner_fault e ≡ false)) }
+    ensures cause { HasCause ends_in_partner_fault (P.faults partner.old) (P.faults partner.new) result }
+    ensures unplanned { IfSome (P.state partner.old) (λ _. P.plan partner.old ≡ [] → IfErr result (λ e. ends_in_partner_fault e ≡ false)) }
     ensures plan { P.plan partner.old ≡ [] → P.plan partner.new ≡ [] }
     ensures calm { IfSome (P.state partner.old) (λ _. P.plan partner.old ≡ [] → P.faults partner.new ≡ P.faults partner.old) }
 {

@@ -1,6 +1,6 @@
 use Rattle.std.proofs.Common.{◌++◌, ◌∷◌, [], arith}
 use Rattle.uring_cli.proofs.Seeding.{one_more_choice, moved_over, still_calm}
-use Rattle.uring_cli.proofs.perform.seed_choices.Goals as goal
+use Rattle.uring_cli.proofs.execute.seed_choices.Goals as goal
 
 pub loop-choice-preserved : goal.loop-choice-preserved
 loop-choice-preserved g c =

@@ -1,6 +1,6 @@
 use Rattle.std.proofs.Common.{◌++◌, ◌∷◌, [], arith}
 use Rattle.uring_cli.proofs.Seeding.{one_more_file, moved_over, still_calm}
-use Rattle.uring_cli.proofs.perform.seed_files.Goals as goal
+use Rattle.uring_cli.proofs.execute.seed_files.Goals as goal
 
 pub loop-seed-preserved : goal.loop-seed-preserved
 loop-seed-preserved g c =

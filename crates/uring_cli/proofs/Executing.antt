@@ -16,7 +16,7 @@ use Rattle.uring_text.specs.Script.{Told}
 use Rattle.uring_text.specs.Status.{status_of}
 use Rattle.uring_cli.specs.declared.words.Options.{Options}
 use Rattle.uring_cli.specs.Seeds.{IsSeeded}
-use Rattle.uring_cli.specs.Runs.{Performed, Failed}
+use Rattle.uring_cli.specs.Runs.{Executed, Failed}
 
 -- where nothing is refused, sizes and jobs are valid
 valid_as : (sq cq : ℕ) (jobs : List Job) (size : Bool) (bad : Option ℕ) → is_valid_size sq cq ≡ size → first_bad 0 jobs ≡ bad → (if size then option_map BadJob bad else Some BadSize) ≡ None → IsValidRun sq cq jobs
@@ -69,17 +69,17 @@ pub failed : {W : Type 0} (mach : schedule.Machine W) (view : W → Files) (Plai
 failed mach view Plain put log state plan told options before given after fault seeds refused run = failed_as mach view Plain put log state plan told options before given after fault (refusal options.sq options.cq told.jobs) seeds refl refused run
 
 -- a report of the run
-performed_as : {W : Type 0} (mach : schedule.Machine W) (view : W → Files) (Plain : W → Type 0) (put : ℕ → List ℕ → W → W) {P : Type 0} (log : P → Option (List LogEvent)) (state : P → Option (schedule.State W)) (plan : P → List ℕ) (told : Told) (options : Options) (before given after : P) (report : Report) (r : Option RunFault)
+executed_as : {W : Type 0} (mach : schedule.Machine W) (view : W → Files) (Plain : W → Type 0) (put : ℕ → List ℕ → W → W) {P : Type 0} (log : P → Option (List LogEvent)) (state : P → Option (schedule.State W)) (plan : P → List ℕ) (told : Told) (options : Options) (before given after : P) (report : Report) (r : Option RunFault)
     → IsSeeded put log state plan told.files told.choices before given → refusal options.sq options.cq told.jobs ≡ r → IfSome r (λ f. (◌≡◌ {A = Result Report RunFault} (Ok report) (Err f)) × (after ≡ given))
     → (IsValidRun options.sq options.cq told.jobs → RunSays mach view Plain log state given after told.jobs (rounded_up options.sq) options.idle (Ok report))
-    → Performed mach view Plain put log state plan told options before after (Ok report)
-performed_as mach view Plain put log state plan told options before given after report None seeds none h run =
+    → Executed mach view Plain put log state plan told options before after (Ok report)
+executed_as mach view Plain put log state plan told options before given after report None seeds none h run =
     let valid = valid_where_none options.sq options.cq told.jobs none in
     record { given = given; seeds = seeds; valid = valid; says = run valid }
-performed_as mach view Plain put log state plan told options before given after report (Some f) seeds some h run = let x = h.0 in absurd cc
+executed_as mach view Plain put log state plan told options before given after report (Some f) seeds some h run = let x = h.0 in absurd cc
 
-pub performed : {W : Type 0} (mach : schedule.Machine W) (view : W → Files) (Plain : W → Type 0) (put : ℕ → List ℕ → W → W) {P : Type 0} (log : P → Option (List LogEvent)) (state : P → Option (schedule.State W)) (plan : P → List ℕ) (told : Told) (options : Options) (before given after : P) (report : Report)
+pub executed : {W : Type 0} (mach : schedule.Machine W) (view : W → Files) (Plain : W → Type 0) (put : ℕ → List ℕ → W → W) {P : Type 0} (log : P → Option (List LogEvent)) (state : P → Option (schedule.State W)) (plan : P → List ℕ) (told : Told) (options : Options) (before given after : P) (report : Report)
     → IsSeeded put log state plan told.files told.choices before given → IfSome (refusal options.sq options.cq told.jobs) (λ f. (◌≡◌ {A = Result Report RunFault} (Ok report) (Err f)) × (after ≡ given))
     → (IsValidRun options.sq options.cq told.jobs → RunSays mach view Plain log state given after told.jobs (rounded_up options.sq) options.idle (Ok report))
-    → Performed mach view Plain put log state plan told options before after (Ok report)
-performed mach view Plain put log state plan told options before given after report seeds refused run = performed_as mach view Plain put log state plan told options before given after report (refusal options.sq options.cq told.jobs) seeds refl refused run
+    → Executed mach view Plain put log state plan told options before after (Ok report)
+executed mach view Plain put log state plan told options before given after report seeds refused run = executed_as mach view Plain put log state plan told options before given after report (refusal options.sq options.cq told.jobs) seeds refl refused run

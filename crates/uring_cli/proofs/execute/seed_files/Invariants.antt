@@ -2,7 +2,7 @@ use Rattle.std.proofs.Common.{◌≡◌, ◌≤◌, ℕ, List, [], ◌++◌}
 use Rattle.std.specs.Prelude.{IfSome}
 use Rattle.uring_text.specs.declared.script.Seed.{Seed}
 use Rattle.uring_cli.specs.Seeds.{IsSeeded}
-use Rattle.uring_cli.proofs.perform.seed_files.Given as goal
+use Rattle.uring_cli.proofs.execute.seed_files.Given as goal
 
 -- the first few are in, and the others are left
 abbrev pub invariant-loop-seed : goal.invariant-loop-seed

@@ -1,7 +1,7 @@
 use Rattle.std.proofs.Common.{◌≡◌, ◌≤◌, ℕ, List, [], ◌++◌}
 use Rattle.std.specs.Prelude.{IfSome}
 use Rattle.uring_cli.specs.Seeds.{IsSeeded}
-use Rattle.uring_cli.proofs.perform.seed_choices.Given as goal
+use Rattle.uring_cli.proofs.execute.seed_choices.Given as goal
 
 -- the first few are in, and the others are left
 abbrev pub invariant-loop-choice : goal.invariant-loop-choice

@@ -1,6 +1,6 @@
 use Rattle.std.proofs.lemmas.Result.{err_from_is_err_and}
 use Rattle.uring_cli.proofs.Seeding.{some_files, some_choices, on_refusal}
-use Rattle.uring_cli.proofs.perform.seed_all.Goals as goal
+use Rattle.uring_cli.proofs.execute.seed_all.Goals as goal
 
 pub returns-in_err-seed_files-clause-err : goal.returns-in_err-seed_files-clause-err
 returns-in_err-seed_files-clause-err g c =
