@@ -14,7 +14,7 @@ use Rattle.uring_model.proofs.Joins.{took-append, posted-append, took_turn, post
 use Rattle.uring_model.proofs.Whole.{whole_turn}
 use Rattle.ring_traits.specs.Lists.{Lists, Moves, WhereTold, HasRoom, room_of}
 use Rattle.uring_partner.specs.declared.memory.MemoryPartner.{MemoryPartner}
-use Rattle.partner_traits.specs.Calls.{Enters, IsTurn, IsWholeTurn}
+use Rattle.partner_traits.specs.Calls.{Enters, IsTurn, IsFullTurn}
 use Rattle.uring_model.specs.Progress.{turns}
 use Rattle.uring_partner.specs.Parts.{GoesBy}
 use Rattle.uring_partner.specs.Told.{state_of, told_state, told_log}
@@ -148,9 +148,9 @@ pub all_room : (n : ℕ) (a : PartnerState) (x : Option Lists) → IsRoom n x �
 all_room n a None h = tt
 all_room n a (Some l) h = ap (λ k. settle_turn k a) h
 
-pub all_room_from : (n : ℕ) (a : PartnerState) (x : Option Lists) (t : Outturn) → settle_turn n a ≡ t → WithRoom n x → ((room : ℕ) → n ≤ room → settle_turn room a ≡ t) → AllRoom n a x
-all_room_from n a None t e h f = tt
-all_room_from n a (Some l) t e h f = e ∙ sym (f (room_of l) h)
+pub all_room_from : (n m : ℕ) (a : PartnerState) (x : Option Lists) (t : Outturn) → settle_turn m a ≡ t → WithRoom n x → ((room : ℕ) → n ≤ room → settle_turn room a ≡ t) → AllRoom m a x
+all_room_from n m a None t e h f = tt
+all_room_from n m a (Some l) t e h f = e ∙ sym (f (room_of l) h)
 
 -- moves of one part after another
 
@@ -232,9 +232,16 @@ entered moved joins a b c d s t u v p n ts g e h f k i =
 pub entered_none : {Q : Type 0} (moved : Q → List Taken → List Completion → Q → Type 0) (a b : MemoryPartner) (s t : Q) → GoesBy moved a b s t [] → state_of b ≡ state_of a → Enters file_machine told_log told_state moved a b s t []
 entered_none moved a b s t g e = record { sides = g.sides; logs = ap Some g.grown; states = e }
 
-pub is_whole : (a : PartnerState) (x : Option Lists) (p n : ℕ) (ts : List Taken) → length ts ≡ p → AllRoom n (take_all a ts) x → IsWholeTurn file_machine (Some a) x (Turned p ∷ (map Took ts ++ map Posted (turn ts n a).posts))
-is_whole a None p n ts e h = tt
-is_whole a (Some l) p n ts e h = record { ts = ts; moves = λ i. Turned (sym e i) ∷ (map Took ts ++ map Posted (h i).posts) }
+-- a call that took all of its number, and settled with at least the room that was known
+pub is_full : (a : PartnerState) (x : Option Lists) (known space p n : ℕ) (ts : List Taken) → length ts ≡ p → known ≤ p → space ≤ n → AllRoom n (take_all a ts) x → IsFullTurn file_machine (Some a) known space x (Turned p ∷ (map Took ts ++ map Posted (turn ts n a).posts))
+is_full a x known space p n ts e k s h = record {
+  ts = ts;
+  room = n;
+  takes = omega (arith, e, k);
+  fits = s;
+  moves = λ i. Turned (sym e i) ∷ (map Took ts ++ map Posted (turn ts n a).posts);
+  told = h;
+}
 
 pub took_count : (p : ℕ) (ts : List Taken) (cs : List Completion) → length ts ≡ p → p ≡ length (took (Turned p ∷ (map Took ts ++ map Posted cs)))
 took_count p ts cs e = sym e ∙ ap length (sym (took_turn ts cs))

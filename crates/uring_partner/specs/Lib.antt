@@ -4,4 +4,4 @@ pub mod Settling
 pub mod Told
 pub mod Parts
 pub mod Logs
-pub use Rattle.partner_traits.specs.Calls as Calls
+pub mod Script

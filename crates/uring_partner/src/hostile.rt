@@ -1,6 +1,7 @@
 //! A partner that posts what its script says.
 
-ghost use Rattle.std.specs.Prelude.{◌≡◌, [], IfOk};
+ghost use Rattle.std.specs.Prelude.{◌≡◌, [], IfOk, OnOk, OnErr};
+ghost use Rattle.uring_partner.specs.Script.{carried, left_held};
 
 use crate::logging::{event_at, push_known};
 use partner_traits::{Counts, EnterCall, Partner, PartnerError, Seedable};
@@ -48,12 +49,13 @@ pub struct HostilePartner {
 }
 
 impl HostilePartner {
-    ghost use Rattle.std.specs.Prelude.{◌≡◌, ◌+◌, ◌<◌, ◌≤◌, [], ◌∷◌, ℕ, List, length, map, min, Some, IfOk, IfSome, OnOk, OnErr, is_ok, vec_len};
+    ghost use Rattle.std.specs.Prelude.{◌≡◌, ◌+◌, ◌<◌, ◌≤◌, ◌++◌, [], ◌∷◌, ℕ, List, length, map, min, Some, IfOk, IfSome, OnOk, OnErr, is_ok, option_to_list};
     ghost use Rattle.uring_base.specs.declared.events.Taken.{Taken};
     ghost use Rattle.uring_base.specs.declared.events.Completion.{Completion};
     ghost use Rattle.uring_model.specs.Moves.{Move, Turned, Took, Posted, took};
     ghost use Rattle.uring_model.specs.Partner.{file_machine};
     ghost use Rattle.uring_partner.specs.Logs.{LogsBy, hostile_log, loans_held, no_state, script_left};
+    ghost use Rattle.uring_partner.specs.Script.{EndsAt, IsFilled, Plays, PlaysCall, completion_by, left_held, loans_of};
     ghost use Rattle.partner_traits.specs.Calls.{Enters, IsCall};
 
     /// A partner with this script, which holds nothing and has no events.
@@ -78,6 +80,10 @@ impl HostilePartner {
         ensures ok { IfOk result (λ p. LogsBy Q.moved self.old.log.items self.new.log.items side.old side.new (Turned p ∷ [])) }
         ensures fits { IfOk result (λ p. (p ≤ to_submit) × (p ≤ Q.ready side.new)) }
         ensures told { IfOk result (λ p. IfSome (Q.lists side.old) (λ l. p ≡ min to_submit (length l.published))) }
+        ensures known { IfOk result (λ p. min to_submit (Q.ready side.old) ≤ p) }
+        ensures space { Q.space side.new ≡ Q.space side.old }
+        ensures script { script_left self.new ≡ script_left self.old }
+        ensures held { loans_held self.new ≡ loans_held self.old }
         ensures err { OnErr result (LogsBy Q.moved self.old.log.items self.new.log.items side.old side.new []) }
     {
         let turn = side.published().min(to_submit);
@@ -88,9 +94,11 @@ impl HostilePartner {
 
     fn take_one<Q: PartnerSide>(&mut self, side: &mut Q) -> Result<(), AllocError>
         requires { 0 < Q.ready side.old }
-        ensures ok { OnOk result ((t : Taken) × LogsBy Q.moved self.old.log.items self.new.log.items side.old side.new (Took t ∷ [])) }
+        ensures ok { OnOk result ((t : Taken) × LogsBy Q.moved self.old.log.items self.new.log.items side.old side.new (Took t ∷ []) × (loans_held self.new ≡ loans_held self.old ++ option_to_list t.loan)) }
         ensures ready { OnOk result (Q.ready side.old ≤ Q.ready side.new + 1) }
-        ensures err { OnErr result (LogsBy Q.moved self.old.log.items self.new.log.items side.old side.new []) }
+        ensures space { Q.space side.new ≡ Q.space side.old }
+        ensures script { script_left self.new ≡ script_left self.old }
+        ensures err { OnErr result (LogsBy Q.moved self.old.log.items self.new.log.items side.old side.new [] × (loans_held self.new ≡ loans_held self.old)) }
     {
         self.log.try_reserve(1)?;
         self.held.try_reserve(1)?;
@@ -108,7 +116,9 @@ impl HostilePartner {
 
     fn take_all<Q: PartnerSide>(&mut self, side: &mut Q, count: u32) -> Result<(), AllocError>
         requires { count ≤ Q.ready side.old }
-        ensures moves { (ts : List Taken) × LogsBy Q.moved self.old.log.items self.new.log.items side.old side.new (map Took ts) × (length ts ≤ count) × OnOk result (length ts ≡ count) }
+        ensures moves { (ts : List Taken) × LogsBy Q.moved self.old.log.items self.new.log.items side.old side.new (map Took ts) × (loans_held self.new ≡ loans_held self.old ++ loans_of ts) × (length ts ≤ count) × OnOk result (length ts ≡ count) }
+        ensures space { Q.space side.new ≡ Q.space side.old }
+        ensures script { script_left self.new ≡ script_left self.old }
     {
         for i in 0..count {
             self.take_one(side)?;
@@ -127,9 +137,11 @@ impl HostilePartner {
         plan: LoanPlan,
     ) -> Result<(), AllocError>
         requires { 0 < Q.space side.old }
-        ensures ok { OnOk result ((c : Completion) × LogsBy Q.moved self.old.log.items self.new.log.items side.old side.new (Posted c ∷ [])) }
-        ensures err { OnErr result (LogsBy Q.moved self.old.log.items self.new.log.items side.old side.new []) }
-        ensures script { (vec_len self.new.script ≡ vec_len self.old.script) × (self.new.used ≡ self.old.used) }
+        ensures ok { OnOk result (LogsBy Q.moved self.old.log.items self.new.log.items side.old side.new (Posted (completion_by user_data outcome flags plan (loans_held self.old)) ∷ [])) }
+        ensures held { OnOk result (loans_held self.new ≡ left_held user_data plan (loans_held self.old)) }
+        ensures space { OnOk result (Q.space side.old ≤ Q.space side.new + 1) }
+        ensures err { OnErr result (LogsBy Q.moved self.old.log.items self.new.log.items side.old side.new [] × (loans_held self.new ≡ loans_held self.old)) }
+        ensures script { (self.new.script.items ≡ self.old.script.items) × (self.new.used ≡ self.old.used) }
     {
         self.log.try_reserve(1)?;
         let (loan, copy) = planned_loan(alloc, &mut self.held, user_data, plan)?;
@@ -157,7 +169,10 @@ impl HostilePartner {
 
     /// Posts the script's items up to its next `Turn`.
     fn post_all<Q: PartnerSide>(&mut self, alloc: Global, side: &mut Q) -> Result<(), AllocError>
-        ensures moves { (cs : List Completion) × LogsBy Q.moved self.old.log.items self.new.log.items side.old side.new (map Posted cs) }
+        ensures moves { (cs : List Completion) × (rest : List Scripted) × LogsBy Q.moved self.old.log.items self.new.log.items side.old side.new (map Posted cs)
+            × Plays (script_left self.old) (loans_held self.old) cs rest (loans_held self.new)
+            × OnOk result (EndsAt rest (script_left self.new) (IsFilled (Q.space side.old) (Q.lists side.old) (length cs)))
+            × OnErr result (script_left self.new ≡ rest) }
     {
         while self.used < self.script.len() {
             match self.script[self.used] {
@@ -190,7 +205,8 @@ impl HostilePartner {
     ) -> Result<u32, AllocError>
         ensures moves { (ms : List Move) × Enters file_machine hostile_log no_state Q.moved self.old self.new side.old side.new ms
             × IsCall (is_ok result) to_submit (Q.lists side.old) ms
-            × IfOk result (λ n. n ≡ length (took ms)) }
+            × IfOk result (λ n. n ≡ length (took ms))
+            × PlaysCall (is_ok result) (min to_submit (Q.ready side.old)) (Q.space side.old) (Q.lists side.old) self.old self.new ms }
     {
         let turn = self.begin_turn(side, to_submit)?;
         self.take_all(side, turn)?;
@@ -206,7 +222,10 @@ fn planned_loan(
     number: u64,
     plan: LoanPlan,
 ) -> Result<(Option<Loan>, Option<Loan>), AllocError>
-    ensures { IfOk result (λ pair. pair.1 ≡ pair.0) }
+    ensures loan { IfOk result (λ pair. pair.0 ≡ carried number plan held.old.items) }
+    ensures copy { IfOk result (λ pair. pair.1 ≡ pair.0) }
+    ensures held { OnOk result (held.new.items ≡ left_held number plan held.old.items) }
+    ensures err { OnErr result (held.new.items ≡ held.old.items) }
 {
     match plan {
         LoanPlan::Nothing => Ok((None, None)),
@@ -224,15 +243,16 @@ fn take_held(
     held: &mut Vec<Loan>,
     number: u64,
 ) -> Result<(Option<Loan>, Option<Loan>), AllocError>
-    ensures { IfOk result (λ pair. pair.1 ≡ pair.0) }
+    ensures loan { IfOk result (λ pair. pair.0 ≡ carried number LoanPlan.Lent held.old.items) }
+    ensures copy { IfOk result (λ pair. pair.1 ≡ pair.0) }
+    ensures held { OnOk result (held.new.items ≡ left_held number LoanPlan.Lent held.old.items) }
+    ensures err { OnErr result (held.new.items ≡ held.old.items) }
 {
-    for place in 0..held.len() {
-        if held[place].number == number {
-            let copy = held[place].try_clone(alloc)?;
-            return Ok((Some(held.remove(place)), Some(copy)));
-        }
-    }
-    Ok((None, None))
+    let Some(place) = held.iter().position(|loan| loan.number == number) else {
+        return Ok((None, None));
+    };
+    let copy = held[place].try_clone(alloc)?;
+    Ok((Some(held.remove(place)), Some(copy)))
 }
 
 fn no_bytes(alloc: Global, number: u64) -> Loan
@@ -250,11 +270,14 @@ impl Counts for HostilePartner {
 }
 
 impl Partner for HostilePartner {
-    ghost use Rattle.std.specs.Prelude.{[], length, refl};
+    ghost use Rattle.std.specs.Prelude.{◌≡◌, [], List, length, min, refl, IfErr, IfOk, is_ok};
+    ghost use Rattle.uring_model.specs.Moves.{Move, took};
     ghost use Rattle.uring_model.specs.Machine.{Files};
     ghost use Rattle.uring_model.specs.Partner.{file_machine};
     ghost use Rattle.uring_model.specs.Refines.{AnyFiles, same_files, files_refine};
+    ghost use Rattle.partner_traits.specs.Calls.{Enters, IsCall};
     ghost use Rattle.uring_partner.specs.Logs.{hostile_log, no_state};
+    ghost use Rattle.uring_partner.specs.Script.{PlaysCall};
     ghost use Rattle.uring_partner.specs.Told.{put_in, puts_in};
 
     ghost log = { hostile_log };
@@ -279,12 +302,20 @@ impl Partner for HostilePartner {
 
     ghost plan = { λ _. [] };
 
+    ghost errno = { λ _. 0 };
+
     fn enter<Q: PartnerSide>(
         &mut self,
         alloc: Global,
         call: &EnterCall,
         side: &mut Q,
-    ) -> Result<u32, PartnerError> {
+    ) -> Result<u32, PartnerError>
+        ensures moves { (ms : List Move) × Enters file_machine hostile_log no_state Q.moved self.old self.new side.old side.new ms
+            × IsCall (is_ok result) call.now.to_submit (Q.lists side.old) ms
+            × IfOk result (λ n. n ≡ length (took ms))
+            × PlaysCall (is_ok result) (min call.now.to_submit (Q.ready side.old)) (Q.space side.old) (Q.lists side.old) self.old self.new ms }
+        ensures memory { IfErr result (λ e. e ≡ PartnerError.NoMemory) }
+    {
         match self.run_turn(alloc, call.to_submit, side) {
             Ok(taken) => Ok(taken),
             Err(_) => Err(PartnerError::NoMemory),
@@ -303,13 +334,21 @@ impl Partner for HostilePartner {
 }
 
 impl Seedable for HostilePartner {
+    ghost use Rattle.std.specs.Prelude.{◌≡◌, IsOk};
+
     /// Does nothing, since it has no files.
-    fn put_file(&mut self, _alloc: Global, _number: u32, _bytes: Buf) -> Result<(), PartnerError> {
+    fn put_file(&mut self, _alloc: Global, _number: u32, _bytes: Buf) -> Result<(), PartnerError>
+        ensures ok { IsOk result }
+        ensures nothing { self.new ≡ self.old }
+    {
         Ok(())
     }
 
     /// Does nothing, since its script says what it posts.
-    fn add_choice(&mut self, _alloc: Global, _choice: u32) -> Result<(), PartnerError> {
+    fn add_choice(&mut self, _alloc: Global, _choice: u32) -> Result<(), PartnerError>
+        ensures ok { IsOk result }
+        ensures nothing { self.new ≡ self.old }
+    {
         Ok(())
     }
 }

@@ -11,11 +11,16 @@ use partner_traits::{Counts, EnterCall, Partner, PartnerError, Seedable};
 use ring_traits::PartnerSide;
 use std::alloc::{AllocError, Global};
 use std::collections::VecDeque;
+use uring_base::errno::EIO;
 use uring_base::{Buf, Completion, Event, Loan, LogEvent};
 use uring_model::{Files, Pending, has_link};
 
 #[cfg(test)]
 mod tests;
+
+/// The choice once the choices have run out: the entry in front of the ready ones settles, and the
+/// turn goes on.
+const IN_ORDER: u32 = 1;
 
 /// A partner that keeps its files in memory, and tells all that it does.
 ///
@@ -45,9 +50,9 @@ impl MemoryPartner {
     ghost use Rattle.uring_model.specs.Partner.{IsIdle, Settles, file_machine, after_settle, after_take, answer_to, idle};
     ghost use Rattle.uring_model.specs.Turn.{settle_turn, take_all};
     ghost use Rattle.ring_traits.specs.Lists.{room_of};
-    ghost use Rattle.partner_traits.specs.Calls.{Enters, IsCall, IsWholeTurn};
+    ghost use Rattle.partner_traits.specs.Calls.{Enters, IsCall, IsFullTurn};
     ghost use Rattle.uring_partner.specs.Parts.{GoesBy};
-    ghost use Rattle.uring_partner.specs.Told.{state_of, told_state, told_log, told_plan, told_faults};
+    ghost use Rattle.uring_partner.specs.Told.{state_of, told_state, told_log, told_plan, told_faults, told_errno};
 
     /// A partner without files, entries, choices or events.
     pub fn new(alloc: Global) -> MemoryPartner
@@ -55,6 +60,7 @@ impl MemoryPartner {
         ensures log { told_log result ≡ Some [] }
         ensures plan { told_plan result ≡ [] }
         ensures faults { told_faults result ≡ 0 }
+        ensures errno { told_errno result ≡ 0 }
     {
         MemoryPartner {
             files: Files::new(alloc),
@@ -108,8 +114,8 @@ impl MemoryPartner {
         self.faults
     }
 
-    /// Lets the `k`-th enter from now, counted from 1, fail with errno 5. It does nothing else
-    /// then than to count that.
+    /// Lets the `k`-th enter from now, counted from 1, fail with the error number `EIO`. It does
+    /// nothing else then than to count that.
     pub fn fail_enter(&mut self, _alloc: Global, k: u64) -> Result<(), PartnerError>
         requires { 1 ≤ k }
         ensures ok { OnOk result (told_plan self.new ≡ told_plan self.old ++ k ∷ []) }
@@ -130,7 +136,7 @@ impl MemoryPartner {
     {
         match self.choices.front() {
             Some(c) => *c,
-            None => 1,
+            None => IN_ORDER,
         }
     }
 
@@ -143,6 +149,8 @@ impl MemoryPartner {
         ensures ok { IfOk result (λ p. GoesBy Q.moved self.old self.new side.old side.new (Turned p ∷ [])) }
         ensures fits { IfOk result (λ p. (p ≤ to_submit) × (p ≤ Q.ready side.new)) }
         ensures told { IfOk result (λ p. IfSome (Q.lists side.old) (λ l. p ≡ min to_submit (length l.published))) }
+        ensures known { IfOk result (λ p. min to_submit (Q.ready side.old) ≤ p) }
+        ensures space { Q.space side.new ≡ Q.space side.old }
         ensures err { OnErr result (GoesBy Q.moved self.old self.new side.old side.new []) }
         ensures state { state_of self.new ≡ state_of self.old }
     {
@@ -157,6 +165,7 @@ impl MemoryPartner {
         requires { 0 < Q.ready side.old }
         ensures ok { OnOk result ((t : Taken) × GoesBy Q.moved self.old self.new side.old side.new (Took t ∷ []) × (state_of self.new ≡ after_take (state_of self.old) t)) }
         ensures ready { OnOk result (Q.ready side.old ≤ Q.ready side.new + 1) }
+        ensures space { Q.space side.new ≡ Q.space side.old }
         ensures err { OnErr result (GoesBy Q.moved self.old self.new side.old side.new [] × (state_of self.new ≡ state_of self.old)) }
     {
         self.log.try_reserve(1)?;
@@ -181,6 +190,7 @@ impl MemoryPartner {
     fn take_all<Q: PartnerSide>(&mut self, side: &mut Q, count: u32) -> Result<(), AllocError>
         requires { count ≤ Q.ready side.old }
         ensures moves { (ts : List Taken) × GoesBy Q.moved self.old self.new side.old side.new (map Took ts) × (state_of self.new ≡ take_all (state_of self.old) ts) × (length ts ≤ count) × OnOk result (length ts ≡ count) }
+        ensures space { Q.space side.new ≡ Q.space side.old }
     {
         for i in 0..count {
             self.take_one(side)?;
@@ -205,15 +215,15 @@ impl MemoryPartner {
                 self.pending.put_back(place, item);
                 Err(error)
             }
-            Ok(settled) => {
+            Ok(settlement) => {
                 let is_linked = has_link(&item.taken);
                 self.pending
-                    .pass_on(&mut self.tail, place, is_linked, settled.cut);
-                self.pending.mark_if(settled.answered.marks);
+                    .pass_on(&mut self.tail, place, is_linked, settlement.cut);
+                self.pending.mark_if(settlement.answered.marks);
                 let _used = self.choices.pop_front();
                 let job = item.taken.entry.user_data;
-                let outcome = settled.answered.result;
-                push_known(&mut self.log, final_post(job, outcome, settled.copy));
+                let outcome = settlement.answered.result;
+                push_known(&mut self.log, final_post(job, outcome, settlement.copy));
                 Ok(final_completion(job, outcome, item.taken.loan))
             }
         }
@@ -221,7 +231,7 @@ impl MemoryPartner {
 
     /// Settles while anything is pending and the side has room, until an even choice.
     fn settle_all<Q: PartnerSide>(&mut self, alloc: Global, side: &mut Q) -> Result<(), AllocError>
-        ensures moves { (n : ℕ) × GoesBy Q.moved self.old self.new side.old side.new (map Posted (settle_turn n (state_of self.old)).posts) × (state_of self.new ≡ (settle_turn n (state_of self.old)).state) × OnOk result (IfSome (Q.lists side.old) (λ l. settle_turn n (state_of self.old) ≡ settle_turn (room_of l) (state_of self.old))) }
+        ensures moves { (n : ℕ) × GoesBy Q.moved self.old self.new side.old side.new (map Posted (settle_turn n (state_of self.old)).posts) × (state_of self.new ≡ (settle_turn n (state_of self.old)).state) × OnOk result ((Q.space side.old ≤ n) × IfSome (Q.lists side.old) (λ l. settle_turn n (state_of self.old) ≡ settle_turn (room_of l) (state_of self.old))) }
     {
         while !self.pending.items.is_empty() {
             if side.room() == 0 {
@@ -247,7 +257,7 @@ impl MemoryPartner {
         ensures moves { (ms : List Move) × Enters file_machine told_log told_state Q.moved self.old self.new side.old side.new ms
             × IsCall (is_ok result) to_submit (Q.lists side.old) ms
             × IfOk result (λ n. n ≡ length (took ms))
-            × OnOk result (IsWholeTurn file_machine (told_state self.old) (Q.lists side.old) ms) }
+            × OnOk result (IsFullTurn file_machine (told_state self.old) (min to_submit (Q.ready side.old)) (Q.space side.old) (Q.lists side.old) ms) }
         ensures faults { self.new.faults ≡ self.old.faults }
         ensures plan { self.new.plan.items ≡ self.old.plan.items }
     {
@@ -284,7 +294,8 @@ fn final_completion(job: u64, outcome: i32, loan: Option<Loan>) -> Completion
 /// Posts where there is room.
 fn post_known<Q: PartnerSide>(side: &mut Q, completion: Completion)
     requires { 0 < Q.space side.old }
-    ensures { Q.moved side.old [] (completion ∷ []) side.new }
+    ensures moved { Q.moved side.old [] (completion ∷ []) side.new }
+    ensures space { Q.space side.old ≤ Q.space side.new + 1 }
 {
     if let Err(_back) = side.post(completion) {
         unreachable!();
@@ -298,15 +309,11 @@ impl Counts for MemoryPartner {
 }
 
 impl Partner for MemoryPartner {
-    ghost use Rattle.std.specs.Prelude.{◌≡◌, List, length, refl, Contains, IfErr, IfOk, IfSome, IsTrue, OnOk, is_ok};
-    ghost use Rattle.uring_base.specs.Causes.{HasCause};
-    ghost use Rattle.uring_model.specs.Moves.{Move, took};
-    ghost use Rattle.partner_traits.specs.Calls.{Enters, IsCall, IsWholeTurn, is_fault, later_plan};
+    ghost use Rattle.std.specs.Prelude.{length, refl};
     ghost use Rattle.uring_model.specs.Machine.{Files};
     ghost use Rattle.uring_model.specs.Partner.{file_machine};
     ghost use Rattle.uring_model.specs.Refines.{AnyFiles, same_files, files_refine};
-    ghost use Rattle.uring_partner.specs.Parts.{IsPlannedFailure};
-    ghost use Rattle.uring_partner.specs.Told.{told_log, told_state, told_plan, told_faults, put_in, puts_in};
+    ghost use Rattle.uring_partner.specs.Told.{told_log, told_state, told_plan, told_errno, put_in, puts_in};
 
     ghost log = { told_log };
 
@@ -330,25 +337,17 @@ impl Partner for MemoryPartner {
 
     ghost plan = { told_plan };
 
+    ghost errno = { told_errno };
+
     fn enter<Q: PartnerSide>(
         &mut self,
         alloc: Global,
         call: &EnterCall,
         side: &mut Q,
-    ) -> Result<u32, PartnerError>
-        ensures moves { (ms : List Move) × Enters file_machine told_log told_state Q.moved self.old self.new side.old side.new ms
-            × IsCall (is_ok result) call.now.to_submit (Q.lists side.old) ms
-            × IfOk result (λ n. n ≡ length (took ms))
-            × OnOk result (IsWholeTurn file_machine (told_state self.old) (Q.lists side.old) ms) }
-        ensures cause { HasCause is_fault (told_faults self.old) (told_faults self.new) result }
-        ensures planned { IfSome (told_state self.old) (λ _. IfErr result (λ e. IsTrue (is_fault e) → Contains (told_plan self.old) 1)) }
-        ensures counted { IfSome (told_state self.old) (λ _. ¬ Contains (told_plan self.old) 1 → told_faults self.new ≡ told_faults self.old) }
-        ensures plan { told_plan self.new ≡ later_plan (told_plan self.old) }
-        ensures fails { Contains (told_plan self.old) 1 → IsPlannedFailure result self.old self.new × (side.new ≡ side.old) }
-    {
+    ) -> Result<u32, PartnerError> {
         if pass_enter(&mut self.plan) {
             self.faults = self.faults.saturating_add(1);
-            return Err(PartnerError::Fault(5));
+            return Err(PartnerError::Fault(EIO.cast_unsigned()));
         }
         match self.run_turn(alloc, call.to_submit, side) {
             Ok(taken) => Ok(taken),

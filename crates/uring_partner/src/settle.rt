@@ -11,12 +11,13 @@ use crate::chain::{can_mark, cuts_next};
 use std::alloc::{AllocError, Global};
 use std::collections::VecDeque;
 use uring_base::Loan;
+use uring_base::errno::ECANCELED;
 use uring_model::{Answered, Files, Operation, Pending, operation_of, perform};
 
 /// What a settling answers, whether it cuts the next entry of its chain, and a copy of the loan
 /// that it posts.
 #[derive(Drop)]
-pub struct Settled {
+pub struct Settlement {
     pub answered: Answered,
     pub cut: bool,
     pub copy: Option<Loan>,
@@ -102,7 +103,7 @@ fn answer(
     ensures err { OnErr result ((files.new ≡ files.old) × (item.new ≡ item.old)) }
 {
     if item.marked || item.cut {
-        return Ok(Answered::plain(-125));
+        return Ok(Answered::plain(-ECANCELED));
     }
     let can_cancel = finds_job(rest, operation);
     perform_on_loan(alloc, files, operation, can_cancel, &mut item.taken.loan)
@@ -142,11 +143,11 @@ pub fn settle(
     files: &mut Files,
     rest: &VecDeque<Pending>,
     item: &mut Pending,
-) -> Result<Settled, AllocError>
-    ensures result { IfOk result (λ settled. settled.answered.result ≡ (answered_among files.old rest.now.items item.old).result) }
-    ensures marks { IfOk result (λ settled. settled.answered.marks ≡ (answered_among files.old rest.now.items item.old).marks) }
-    ensures cut { IfOk result (λ settled. settled.cut ≡ cuts item.old.cut (job_of item.old.taken) (answered_among files.old rest.now.items item.old).result) }
-    ensures copy { IfOk result (λ settled. settled.copy ≡ item.new.taken.loan) }
+) -> Result<Settlement, AllocError>
+    ensures result { IfOk result (λ settlement. settlement.answered.result ≡ (answered_among files.old rest.now.items item.old).result) }
+    ensures marks { IfOk result (λ settlement. settlement.answered.marks ≡ (answered_among files.old rest.now.items item.old).marks) }
+    ensures cut { IfOk result (λ settlement. settlement.cut ≡ cuts item.old.cut (job_of item.old.taken) (answered_among files.old rest.now.items item.old).result) }
+    ensures copy { IfOk result (λ settlement. settlement.copy ≡ item.new.taken.loan) }
     ensures files { OnOk result (files.new ≡ (answered_among files.old rest.now.items item.old).world) }
     ensures item { OnOk result (item.new ≡ settled_item item.old (answered_among files.old rest.now.items item.old).buf) }
     ensures err { OnErr result ((files.new ≡ files.old) × (item.new ≡ item.old)) }
@@ -159,7 +160,7 @@ pub fn settle(
     let answered = answer(alloc, files, rest, operation, item)?;
     match_copy(&mut copy, &item.taken.loan);
     let cut = either(is_below(answered.result, least), where_bad, where_good);
-    Ok(Settled {
+    Ok(Settlement {
         answered,
         cut,
         copy,

@@ -28,11 +28,11 @@ pub returns-in-Ok-clause-ok : goal.returns-in-Ok-clause-ok
 returns-in-Ok-clause-ok c =
     let q = c.chosen_place-place.ensures in
     let m = cursor_removed c.next_choice.result c.args.self.now.pending.items.items q.0 c.chosen_place-place.result q.1 q.2 in
-    let fits : SFits w32 c.in-Ok.settled.answered.result = search rules in
+    let fits : SFits w32 c.in-Ok.settlement.answered.result = search rules in
     let chosen = subst (λ n. named n (ready_cursors [] c.args.self.now.pending.items.items) ≡ Some q.0) c.next_choice.ensures q.1 in
     subst (λ z. (s : Settles (state_of c.args.self.now) z) × (◌≡◌ {A = PartnerState} (record { world = c.settle.new.files; pending = c.mark_if.new.self.items.items; tail = c.pass_on.new.tail; choices = c.pop_front-used.new.self.items }) (after_settle (state_of c.args.self.now) s.cursor (answer_to c.args.self.now.files s.cursor)))) (sym c.final_completion.ensures)
     (code_settles (state_of c.args.self.now) q.0 c.chosen_place-place.result c.take_out-item.result c.take_out-item.new.self.items.items c.settle.new.item
-    _ c.in-Ok.settled.answered.marks c.in-Ok.settled.cut c.has_link-is_linked.result c.settle.new.files c.pass_on.new.self.items.items c.mark_if.new.self.items.items c.pass_on.new.tail c.pop_front-used.new.self.items
+    _ c.in-Ok.settlement.answered.marks c.in-Ok.settlement.cut c.has_link-is_linked.result c.settle.new.files c.pass_on.new.self.items.items c.mark_if.new.self.items.items c.pass_on.new.tail c.pop_front-used.new.self.items
     chosen q.2 m (c.take_out-item.ensures.item ∙ m.item c.take_out-item.result) c.take_out-item.ensures.rest
-    (to_z-of_z w32 c.in-Ok.settled.answered.result fits ∙ c.in-Ok.ensures.result) c.in-Ok.ensures.marks c.in-Ok.ensures.cut c.in-Ok.ensures.files
+    (to_z-of_z w32 c.in-Ok.settlement.answered.result fits ∙ c.in-Ok.ensures.result) c.in-Ok.ensures.marks c.in-Ok.ensures.cut c.in-Ok.ensures.files
     c.in-Ok.ensures.item c.has_link-is_linked.ensures c.pass_on.ensures.pending c.pass_on.ensures.tail c.mark_if.ensures c.pop_front-used.ensures.rest)
