@@ -1,4 +1,4 @@
--- How a refused input is told as an error of the system.
+-- Why an input was not read, as an error of the system.
 use Rattle.std.specs.declared.io.ErrorKind.{ErrorKind}
 use Rattle.std.specs.declared.io.ErrorKind.TheVariants.{Other, FileTooLarge, OutOfMemory}
 use Rattle.uring_streams.specs.declared.read.InputFault.{InputFault}
