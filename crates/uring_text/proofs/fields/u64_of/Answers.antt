@@ -1,7 +1,7 @@
 use Rattle.std.proofs.Common.{sym, ◌∙◌, ◌^◌, arith}
 use Rattle.std.proofs.lemmas.Bool.{eqb-true, eqb-false}
 use Rattle.uring_text.proofs.Numbers.{none_for_empty, none_for_plus, none_for_zero, none_for_bytes, parsed_as}
-use Rattle.uring_text.proofs.fields.number.Goals as goal
+use Rattle.uring_text.proofs.fields.u64_of.Goals as goal
 
 pub returns-then-is_empty : goal.returns-then-is_empty
 returns-then-is_empty c = sym (none_for_empty (2 ^ 64) c.args.text.now (omega arith) (eqb-true _ _ (sym c.if-is_empty.ensures)))
