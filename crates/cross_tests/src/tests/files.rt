@@ -1,14 +1,15 @@
 use partner_traits::Seedable;
-use rent_engine::{Engine, OpState, Poll};
+use rent_engine::{Engine, EngineFault, OpState, Poll, StartFault};
 use rent_fs::{File, FsError, ReadAt};
 use std::alloc::Global;
 use std::process::Abort;
 use std::test::Fail;
 use uring_base::Buf;
-use uring_base::errno::EBADF;
+use uring_base::errno::{EBADF, EIO};
 use uring_base::squeue::Flags;
 use uring_partner::{HostilePartner, LoanPlan, MemoryPartner, Scripted};
 use uring_ring::{IoUring, SetupError};
+use uring_submit::SubmitError;
 
 fn engine_of(alloc: Global, entries: u32) -> Result<Engine<IoUring>, SetupError> {
     let ring = IoUring::new(alloc, entries)?;
@@ -164,5 +165,23 @@ fn syncs_that_fail(rt: HostRuntime) -> Result<(), Fail> {
     assert!(rt; engine.turn(alloc, &mut partner).is_ok());
     let no_file = Err(FsError::Os(EBADF.cast_unsigned()));
     assert_ends(&rt, first.poll(alloc, &mut engine), no_file);
+    Ok(())
+}
+
+/// What the faults of each layer say, and that a partner's keeps its error number up to the top.
+#[test]
+fn texts_of_faults(rt: HostRuntime) -> Result<(), Fail> {
+    let alloc = rt.alloc();
+    let full = format!(in alloc; "{}", StartFault::RingFull(None))?;
+    assert_eq!(rt; full.as_str(), "the submission ring is full");
+    let submit = SubmitError::Fault(EIO.cast_unsigned());
+    let text = format!(in alloc; "{submit}")?;
+    assert_eq!(rt; text.as_str(), "partner fault: error number 5");
+    let engine = EngineFault::from(submit);
+    let text = format!(in alloc; "{engine}")?;
+    assert_eq!(rt; text.as_str(), "partner fault: error number 5");
+    let file = FsError::from(engine);
+    let text = format!(in alloc; "{file}")?;
+    assert_eq!(rt; text.as_str(), "error number 5");
     Ok(())
 }
