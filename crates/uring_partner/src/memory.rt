@@ -1,6 +1,6 @@
 //! A partner whose files are in memory.
 
-ghost use Rattle.std.specs.Prelude.{◌≡◌, ◌<◌, [], ◌∷◌, ◌++◌, true, vec_len, vec_capacity};
+ghost use Rattle.std.specs.Prelude.{◌≡◌, ◌+◌, ◌<◌, ◌≤◌, [], ◌∷◌, true};
 
 use crate::logging::{event_at, push_known};
 use crate::pending_list::PendingList;
