@@ -21,6 +21,6 @@ abbrev pub pieces_in : ℕ → ℕ
 pieces_in len = (len + (PIECE - 1)) / PIECE
 
 -- all bytes were copied, by so many operations
-pub record IsWhole (copied : Copied) (len operations : ℕ) : Type 0 where
+pub record IsWhole (copied : Copied) (len count : ℕ) : Type 0 where
   pub bytes : copied.bytes ≡ len
-  pub operations : copied.operations ≡ operations
+  pub operations : copied.operations ≡ count

@@ -113,9 +113,9 @@ option_found word n given next e =
           | inl r ↦ adds Start (and_parts _ _ r.0) (omega arith) r.1
           | inr r ↦ elim (chosen (bytes_eq word (codes "--idle") && is_none given.idle && nat_lt 0 n) (there (put Idle n given)) None (Some next) r.1) [
             | inl s ↦
-              let both = and_parts (bytes_eq word (codes "--idle") && is_none given.idle) (nat_lt 0 n) s.0 in
-              let above = ltb-true 0 n both.1 in
-              adds Idle (and_parts _ _ both.0) (omega arith) s.1
+                let both = and_parts (bytes_eq word (codes "--idle") && is_none given.idle) (nat_lt 0 n) s.0 in
+                let above = ltb-true 0 n both.1 in
+                adds Idle (and_parts _ _ both.0) (omega arith) s.1
             | inr s ↦ absurd (no_more s.1)
           ]
         ]
@@ -220,17 +220,17 @@ options_found numbers (word ∷ words) options e =
     elim (chosen (bytes_eq word (codes "run")) (option_map in_force (given_by nothing_given words)) None (Some options) e) [
       | inr p ↦ let none = p.1 in absurd cc
       | inl p ↦ mapped (given_by nothing_given words) in_force options p.1 (λ after is_given is_options.
-        let reads = given_found numbers nothing_given after words is_given in
-        subst (λ (o : Options). SaysOptions (word ∷ words) o) is_options (record {
-          settings = reads.settings;
-          spelled = ap (λ w. w ∷ words) (same_bytes word (codes "run") p.0) ∙ ap (λ ws. codes "run" ∷ ws) reads.spelled;
-          once = reads.once;
-          in_range = reads.in_range;
-          sq = in_force_is Sq DEFAULT_ENTRIES reads.settings after (reads.stands Sq);
-          cq = in_force_is Cq (min (2 * unwrap_or after.sq DEFAULT_ENTRIES) MAX_NUMBER) reads.settings after (reads.stands Cq);
-          start = in_force_is Start 0 reads.settings after (reads.stands Start);
-          idle = in_force_is Idle DEFAULT_IDLE reads.settings after (reads.stands Idle);
-        }))
+          let reads = given_found numbers nothing_given after words is_given in
+          subst (λ (o : Options). SaysOptions (word ∷ words) o) is_options (record {
+            settings = reads.settings;
+            spelled = ap (λ w. w ∷ words) (same_bytes word (codes "run") p.0) ∙ ap (λ ws. codes "run" ∷ ws) reads.spelled;
+            once = reads.once;
+            in_range = reads.in_range;
+            sq = in_force_is Sq DEFAULT_ENTRIES reads.settings after (reads.stands Sq);
+            cq = in_force_is Cq (min (2 * unwrap_or after.sq DEFAULT_ENTRIES) MAX_NUMBER) reads.settings after (reads.stands Cq);
+            start = in_force_is Start 0 reads.settings after (reads.stands Start);
+            idle = in_force_is Idle DEFAULT_IDLE reads.settings after (reads.stands Idle);
+          }))
     ]
 
 -- ---- and what is said so is read

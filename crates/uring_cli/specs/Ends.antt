@@ -80,6 +80,10 @@ Writes old new faults faults' ends.Stalled = new ≡ old
 Writes old new faults faults' ends.PartnerFault = new ≡ old
 Writes old new faults faults' ends.NoMemory = new ≡ old
 
+-- where a count of faults stops
+abbrev pub last_count : ℕ
+last_count = 2 ^ 64 - 1
+
 -- The command with these options on a script that isn't too long, with sizes and jobs that are valid, over an idle partner
 -- without planned faults, and no fault of a stream in the call or at the end of its count.
 pub record IsGoodCall {W : Type 0} (Plain : W → Type 0) (options : Options) (text : List ℕ) (before : schedule.State W) (plan : List ℕ) (read read' write write' : ℕ) : Type 0 where
@@ -90,6 +94,6 @@ pub record IsGoodCall {W : Type 0} (Plain : W → Type 0) (options : Options) (t
   pub idle : IsPlainAndIdle Plain before
   pub unplanned : plan ≡ []
   pub reads : read' ≡ read
-  pub read_room : read < 2 ^ 64 - 1
+  pub read_room : read < last_count
   pub writes : write' ≡ write
-  pub write_room : write < 2 ^ 64 - 1
+  pub write_room : write < last_count

@@ -9,22 +9,20 @@ mod execute;
 mod input;
 mod laws;
 mod main_call;
-mod words;
-
 #[cfg(test)]
 mod tests;
+mod words;
 
 pub use laws::options_are_as_said;
 pub use main_call::ring_main;
-pub use uring_streams::{MemorySink, MemorySource, Sink, Source, StdSink, StdSource};
-pub use uring_text::{Status, status_text};
-pub use words::{DEFAULT_ENTRIES, DEFAULT_IDLE, MAX_NUMBER, Options, Word, options_of};
-
 use std::env;
 use std::io::{self, BufReader};
 use std::process::ExitCode;
 use uring_base::Buf;
 use uring_partner::MemoryPartner;
+pub use uring_streams::{MemorySink, MemorySource, Sink, Source, StdSink, StdSource};
+pub use uring_text::{Status, status_text};
+pub use words::{DEFAULT_ENTRIES, DEFAULT_IDLE, MAX_NUMBER, Options, Word, options_of};
 
 /// The words after the program's name.
 fn words_after_name(rt: &HostRuntime) -> io::Result<Vec<Word>> {

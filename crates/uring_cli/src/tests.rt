@@ -53,9 +53,30 @@ fn each_call(rt: HostRuntime) -> Result<(), Fail> {
 #[test]
 fn failures(rt: HostRuntime) -> Result<(), Fail> {
     for (fails, wanted, written) in [
-        (Fails { read: Some(2), ..Fails::default() }, Status::ReadFault, ""),
-        (Fails { write: Some(2), ..Fails::default() }, Status::WriteFault, "out "),
-        (Fails { enter: Some(1), ..Fails::default() }, Status::PartnerFault, ""),
+        (
+            Fails {
+                read: Some(2),
+                ..Fails::default()
+            },
+            Status::ReadFault,
+            "",
+        ),
+        (
+            Fails {
+                write: Some(2),
+                ..Fails::default()
+            },
+            Status::WriteFault,
+            "out ",
+        ),
+        (
+            Fails {
+                enter: Some(1),
+                ..Fails::default()
+            },
+            Status::PartnerFault,
+            "",
+        ),
     ] {
         let (status, text) = called(rt.alloc(), &fails)?;
         assert_eq!(rt; status, wanted);

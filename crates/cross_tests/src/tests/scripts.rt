@@ -73,7 +73,10 @@ fn assert_rows(rt: &impl Abort, alloc: Global, rows: &[table::Row]) -> Result<()
         let (report, partner) = run(alloc, *sizes, script)?;
         let text = report_text(alloc, &report)?;
         assert_eq!(rt; text.as_slice(), wanted.as_bytes(), "{script}");
-        assert!(rt; replay_agrees(alloc, script, &report, &partner)?, "{script}");
+        assert!(rt;
+            replay_agrees(alloc, script, &report, &partner)?,
+            "{script}"
+        );
     }
     Ok(())
 }
