@@ -3,91 +3,74 @@
 
 This is a second reading of docs/DEFINITIONS.md, written from its sentences over job numbers and
 from nothing in crates/: what is linked, severed and may settle, what one settling gives, and how
-a turn goes. It works the reports out and writes them as crates/uring_cli/src/tests/table.rt, whose
-test runs each script through the command.
+a turn goes. It works out the report of the program's stored run, crates/uring_cli/stdin under the
+words of crates/uring_cli/args, and a table of scripts and reports, whose test in
+crates/cross_tests/src/tests/scripts.rt runs each.
 
-    python3 bench/script_table.py           writes the file
-    python3 bench/script_table.py --check   says whether the file is what it would write
+    python3 bench/script_table.py           writes both files
+    python3 bench/script_table.py --check   says whether the files are what it would write
 """
 
 import pathlib
 import sys
 
 LIMIT = 16_777_216
-TABLE = pathlib.Path(__file__).parent.parent / "crates/uring_cli/src/tests/table.rt"
+CRATES = pathlib.Path(__file__).parent.parent / "crates"
+TABLE = CRATES / "cross_tests/src/tests/scripts/table.rt"
+PROGRAM = CRATES / "uring_cli"
 
+# Each row has the sizes of both rings, the position at which they begin, and a script.
 GROUPS = [
     ("drained", "Drained jobs wait for all before them, and all behind wait for them.", [
-        ("run", "nop;nop drain;nop"),
-        ("run --sq 2", "nop;nop;nop drain;nop;nop"),
-        ("run --sq 1", "file 1 -;write 1 0 aa;read 1 0 1 drain;write 1 0 bb"),
-        ("run --sq 4 --cq 4", "nop drain;nop;nop drain;nop;nop;nop drain"),
-    ]),
-    ("drained_and_chosen", "Drained jobs wait and hold back whatever the choices are.", [
-        ("run", "choose 3;nop;nop drain;nop"),
-        ("run", "choose 2;nop;nop drain"),
-        ("run", "choose 0;nop drain;nop drain"),
-        ("run", "choose 5;nop;nop;nop drain;nop"),
-        ("run", "choose 3;choose 3;file 1 -;write 1 0 aa;write 1 1 bb drain;read 1 0 2 drain"),
-        ("run", "choose 7;nop;nop;nop;nop drain;nop"),
+        ((2, 4, 0), "nop;nop;nop drain;nop;nop"),
+        ((1, 2, 0), "file 1 -;write 1 0 aa;read 1 0 1 drain;write 1 0 bb"),
+        ((8, 16, 0), "choose 2;nop;nop drain"),
+        ((8, 16, 0), "choose 5;nop;nop;nop drain;nop"),
+        ((8, 16, 0), "choose 3;choose 3;file 1 -;write 1 0 aa;write 1 1 bb drain;read 1 0 2 drain"),
     ]),
     ("soft_links", "A soft link is cut where its job fails or comes short.", [
-        ("run", "file 3 ab;read 3 0 2 link;write 3 0 cc"),
-        ("run", "file 3 ab;read 3 0 1 link;write 3 0 cc"),
-        ("run", "read 9 0 1 link;nop link;nop;nop"),
-        ("run", "file 1 -;write 1 16777216 00 link;write 1 0 11;read 1 0 1"),
-        ("run", "file 1 -;write 1 5 - link;read 1 0 0 link;truncate 1 2;read 1 0 4"),
-        ("run --sq 4", "file 2 0102;fsync 2 link;fsync 3 link;fsync 2;fsync 2"),
-        ("run", "nop link"),
+        ((8, 16, 0), "file 3 ab;read 3 0 2 link;write 3 0 cc"),
+        ((8, 16, 0), "read 9 0 1 link;nop link;nop;nop"),
+        ((8, 16, 0), "file 1 -;write 1 16777216 00 link;write 1 0 11;read 1 0 1"),
+        ((8, 16, 0), "file 1 -;write 1 5 - link;read 1 0 0 link;truncate 1 2;read 1 0 4"),
+        ((4, 8, 0), "file 2 0102;fsync 2 link;fsync 3 link;fsync 2;fsync 2"),
+        ((8, 16, 0), "nop link"),
     ]),
     ("hard_links", "A hard link isn't cut by its own job's result.", [
-        ("run", "file 3 ab;read 3 0 2 hard;write 3 0 cc"),
-        ("run", "read 9 0 1 hard;nop link;fsync 9 link;nop;nop"),
-        ("run", "nop link;read 9 0 1 hard;truncate 9 0 link;nop"),
-        ("run", "choose 0;choose 0;nop hard;nop hard;nop"),
-        ("run", "file 1 aabb;truncate 1 16777217 hard;truncate 1 1 link;read 1 0 2 link;nop"),
+        ((8, 16, 0), "file 3 ab;read 3 0 2 hard;write 3 0 cc"),
+        ((8, 16, 0), "nop link;read 9 0 1 hard;truncate 9 0 link;nop"),
+        ((8, 16, 0), "choose 0;choose 0;nop hard;nop hard;nop"),
+        ((8, 16, 0), "file 1 aabb;truncate 1 16777217 hard;truncate 1 1 link;read 1 0 2 link;nop"),
     ]),
     ("links_over_turns", "A linked job is waited for over turns and choices.", [
-        ("run", "choose 3;nop link;nop;nop"),
-        ("run --sq 2", "file 1 -;read 1 0 1 link;nop link;nop link;nop;nop"),
-        ("run --sq 1", "file 1 00;read 1 0 2 link;write 1 0 11;read 1 0 1"),
-        ("run", "choose 5;nop link;nop;nop;nop link;nop"),
+        ((8, 16, 0), "choose 3;nop link;nop;nop"),
+        ((2, 4, 0), "file 1 -;read 1 0 1 link;nop link;nop link;nop;nop"),
+        ((1, 2, 0), "file 1 00;read 1 0 2 link;write 1 0 11;read 1 0 1"),
+        ((8, 16, 0), "choose 5;nop link;nop;nop;nop link;nop"),
     ]),
     ("canceled", "A cancel marks another job that is taken and open; a marked job changes nothing.", [
-        ("run", "cancel 1;nop"),
-        ("run", "choose 2;file 3 ab;read 3 0 1;cancel 0"),
-        ("run", "choose 3;file 1 -;write 1 0 ff;cancel 0;read 1 0 1"),
-        ("run", "choose 5;nop link;nop;cancel 1"),
-        ("run", "choose 3;file 1 0a;truncate 1 0;cancel 0 hard;read 1 0 1"),
+        ((8, 16, 0), "choose 2;file 3 ab;read 3 0 1;cancel 0"),
+        ((8, 16, 0), "choose 3;file 1 -;write 1 0 ff;cancel 0;read 1 0 1"),
+        ((8, 16, 0), "choose 5;nop link;nop;cancel 1"),
+        ((8, 16, 0), "choose 3;file 1 0a;truncate 1 0;cancel 0 hard;read 1 0 1"),
     ]),
-    ("cancels_of_nothing", "A cancel of its own job, or of one that isn't open, finds none.", [
-        ("run", "cancel 0"),
-        ("run", "cancel 7 link;nop;nop"),
-        ("run --sq 1", "cancel 1;nop;cancel 1"),
-        ("run", "choose 3;nop;cancel 18446744073709551615"),
-        ("run", "nop drain;cancel 0;cancel 1 drain"),
-    ]),
-    ("cancels_beside_cancels", "Of several cancels the first marks; a cancel may be canceled, too.", [
-        ("run", "choose 5;nop;nop;cancel 0;cancel 0"),
-        ("run", "choose 5;choose 5;nop;nop;cancel 0;cancel 0"),
-        ("run", "choose 3;nop;cancel 0 link;nop"),
-        ("run", "choose 3;choose 3;nop;cancel 2;cancel 1"),
-        ("run", "choose 3;cancel 1;cancel 0"),
+    ("cancels", "A cancel of what isn't open finds none, and of several the first marks.", [
+        ((8, 16, 0), "cancel 7 link;nop;nop"),
+        ((1, 2, 0), "cancel 1;nop;cancel 1"),
+        ((8, 16, 0), "nop drain;cancel 0;cancel 1 drain"),
+        ((8, 16, 0), "choose 5;choose 5;nop;nop;cancel 0;cancel 0"),
+        ((8, 16, 0), "choose 3;nop;cancel 0 link;nop"),
+        ((8, 16, 0), "choose 3;choose 3;nop;cancel 2;cancel 1"),
     ]),
     ("chosen", "A choice names the ready job that settles next, and an even one ends the turn.", [
-        ("run", "choose 2;nop;nop"),
-        ("run", "choose 0;choose 0;choose 0;nop;nop;nop"),
-        ("run", "choose 4294967295;nop;nop;nop"),
-        ("run", "choose 4294967294;nop;nop;nop"),
-        ("run", "file 1 -;choose 5;write 1 0 01;choose 3;write 1 0 02;write 1 0 03;read 1 0 1"),
-        ("run", "choose 3;choose 2;nop link;nop;nop drain;nop"),
-    ]),
-    ("chosen_in_small_rings", "The same where a turn begins with few jobs, or has room for few posts.", [
-        ("run --sq 2 --start 4294967295", "choose 2;nop;nop"),
-        ("run --sq 2 --cq 2", "choose 3;choose 4;nop;nop;nop;nop"),
-        ("run --sq 2 --cq 8", "choose 2;choose 2;nop;nop;nop;nop;nop"),
-        ("run --sq 4 --cq 4", "choose 6;choose 1;choose 4;nop;nop;nop;nop;nop;nop"),
-        ("run --sq 1 --cq 1", "choose 2;choose 9;nop;nop"),
+        ((8, 16, 0), "choose 0;choose 0;choose 0;nop;nop;nop"),
+        ((8, 16, 0), "choose 4294967294;nop;nop;nop"),
+        ((8, 16, 0), "file 1 -;choose 5;write 1 0 01;choose 3;write 1 0 02;write 1 0 03;read 1 0 1"),
+        ((8, 16, 0), "choose 3;choose 2;nop link;nop;nop drain;nop"),
+        ((2, 4, 4294967295), "choose 2;nop;nop"),
+        ((2, 2, 0), "choose 3;choose 4;nop;nop;nop;nop"),
+        ((4, 4, 0), "choose 6;choose 1;choose 4;nop;nop;nop;nop;nop;nop"),
+        ((1, 1, 0), "choose 2;choose 9;nop;nop"),
     ]),
 ]
 
@@ -118,8 +101,10 @@ class Job:
 
 def parse(script):
     files, choices, jobs = {}, [], []
-    for line in script.split(";"):
+    for line in script:
         fields = line.split(" ")
+        if line == "" or line[0] == "#":
+            continue
         if fields[0] == "file":
             files[int(fields[1])] = read_hex(fields[2])
         elif fields[0] == "choose":
@@ -238,11 +223,7 @@ def rounded_up(count):
     return size
 
 
-def report_of(words, script):
-    fields = words.split(" ")[1:]
-    options = dict(zip(fields[::2], fields[1::2]))
-    submissions = int(options.get("--sq", 8))
-    completions = int(options.get("--cq", 2 * submissions))
+def report_of(submissions, completions, script):
     return Run(script, rounded_up(submissions), rounded_up(completions)).report()
 
 
@@ -255,32 +236,42 @@ def table():
         "//! Scripts with marks, cancels and choices over small rings, and their reports, which",
         "//! `bench/script_table.py` works out from the definitions.",
         "",
-        "/// The words of a call, its script and its report.",
-        "pub type Row = (&'static str, &'static str, &'static str);",
+        "/// The sizes of both rings and the position at which they begin, a script, and its report.",
+        "pub type Row = ((u32, u32, u32), &'static str, &'static str);",
     ]
     for name, about, rows in GROUPS:
         text += ["", f"/// {about}", f"pub fn {name}() -> [Row; {len(rows)}] {{", "    ["]
-        for words, script in rows:
-            report = report_of(words, script)
+        for sizes, line in rows:
+            script = line.split(";")
             text += [
                 "        (",
-                f'            "{words}",',
-                f"            {literal(script.split(';'))},",
-                f"            {literal(report)},",
+                f"            {sizes},",
+                f"            {literal(script)},",
+                f"            {literal(report_of(sizes[0], sizes[1], script))},",
                 "        ),",
             ]
         text += ["    ]", "}"]
     return "\n".join(text) + "\n"
 
 
+def stored_run():
+    words = (PROGRAM / "args").read_text().split()[1:]
+    options = dict(zip(words[::2], words[1::2]))
+    submissions = int(options.get("--sq", 8))
+    completions = int(options.get("--cq", 2 * submissions))
+    script = (PROGRAM / "stdin").read_text().splitlines()
+    return "\n".join(report_of(submissions, completions, script)) + "\n"
+
+
 def main():
-    made = table()
+    made = {TABLE: table(), PROGRAM / "stdout": stored_run()}
     if sys.argv[1:] == ["--check"]:
-        same = TABLE.read_text() == made
-        print("the table is as worked out" if same else "the table differs")
+        same = all(path.read_text() == text for path, text in made.items())
+        print("the files are as worked out" if same else "the files differ")
         sys.exit(0 if same else 1)
-    TABLE.parent.mkdir(exist_ok=True)
-    TABLE.write_text(made)
+    for path, text in made.items():
+        path.parent.mkdir(exist_ok=True)
+        path.write_text(text)
 
 
 if __name__ == "__main__":

@@ -1,4 +1,5 @@
 mod engines;
 mod files;
 mod runs;
+mod scripts;
 mod submits;

@@ -4,7 +4,7 @@ use Rattle.std.specs.Option.{option_and_then}
 use Rattle.std.specs.Ordering.{nat_cmp, eq_by_cmp}
 use Rattle.std.specs.Cmp.{nat_cmp_total, unsigned_tied, eq_by_cmp_equiv}
 use Rattle.std.specs.FinMap.{FinMap, find, get, insert, remove, len, empty, entries, get-insert, get-remove, get-empty, get-entries, len-insert, len-remove, len-empty, len-entries, empty_of_len, same_map, nat_cmp-IsAntisymmetric}
-use Rattle.rent_engine.specs.Numbered.{put, picked, place_of}
+use Rattle.rent_engine.specs.NumberedSlab.{put, picked, indexed_place}
 
 pub get-put : {V : Type 0} (n : ℕ) (o : Option V) (m : FinMap nat_cmp V) (q : ℕ) → get (put n o m) q ≡ cond (eq_by_cmp nat_cmp q n) o (get m q)
 get-put n None m q = get-remove nat_cmp_total m n q
@@ -30,11 +30,11 @@ pub same_all : {V : Type 0} (m k : FinMap nat_cmp V) → ((q : ℕ) → get k q 
 same_all m k h = same_map nat_cmp_total nat_cmp-IsAntisymmetric _ _ h
 
 -- by the places of an index
-find_place : {X : Type 0} (es : List (ℕ × X)) (q : ℕ) → find nat_cmp q es ≡ place_of es q
+find_place : {X : Type 0} (es : List (ℕ × X)) (q : ℕ) → find nat_cmp q es ≡ indexed_place es q
 find_place [] q = refl
 find_place (e ∷ es) q = ap (λ b. cond b (Some e.1) (find nat_cmp q es)) (unsigned_tied q e.0) ∙ ap (cond (q == e.0) (Some e.1)) (find_place es q)
 
-pub get-at : {X V : Type 0} (pick : X → Option V) (es : List (ℕ × X)) (q : ℕ) → get (picked pick es) q ≡ option_and_then pick (place_of es q)
+pub get-at : {X V : Type 0} (pick : X → Option V) (es : List (ℕ × X)) (q : ℕ) → get (picked pick es) q ≡ option_and_then pick (indexed_place es q)
 get-at pick es q = get-picked pick es q ∙ ap (option_and_then pick) (find_place es q)
 
 -- by the entries of a map

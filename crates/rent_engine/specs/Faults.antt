@@ -16,30 +16,30 @@ use Rattle.rent_engine.specs.declared.fault.EngineFault.{EngineFault}
 use Rattle.rent_engine.specs.declared.fault.EngineFault.TheVariants.{Stranger, Fault, NoMemory}
 
 -- a fault of the partner
-abbrev pub is_fault : EngineFault → Bool
-is_fault (Stranger n) = false
-is_fault (Fault errno) = true
-is_fault NoMemory = false
+abbrev pub is_engine_fault : EngineFault → Bool
+is_engine_fault (Stranger n) = false
+is_engine_fault (Fault errno) = true
+is_engine_fault NoMemory = false
 
 -- a submitter's error, handed on with its error number
-abbrev pub fault_of : SubmitError → EngineFault
-fault_of submit.Exists = Fault (cast_unsigned w32 EEXIST)
-fault_of submit.NotRegistered = Fault (cast_unsigned w32 EINVAL)
-fault_of (submit.Fault errno) = Fault errno
-fault_of submit.NoMemory = NoMemory
+abbrev pub engine_fault_of : SubmitError → EngineFault
+engine_fault_of submit.Exists = Fault (cast_unsigned w32 EEXIST)
+engine_fault_of submit.NotRegistered = Fault (cast_unsigned w32 EINVAL)
+engine_fault_of (submit.Fault errno) = Fault errno
+engine_fault_of submit.NoMemory = NoMemory
 
 -- a fault of the partner has the error number that it keeps now, and any other answer leaves the one that it kept
-abbrev pub KeepsErrno : {T : Type 0} → Result T EngineFault → ℕ → ℕ → Type 0
-KeepsErrno (Ok x) before after = after ≡ before
-KeepsErrno (Err (Stranger n)) before after = after ≡ before
-KeepsErrno (Err (Fault errno)) before after = after ≡ errno
-KeepsErrno (Err NoMemory) before after = after ≡ before
+abbrev pub KeepsEngineErrno : {T : Type 0} → Result T EngineFault → ℕ → ℕ → Type 0
+KeepsEngineErrno (Ok x) before after = after ≡ before
+KeepsEngineErrno (Err (Stranger n)) before after = after ≡ before
+KeepsEngineErrno (Err (Fault errno)) before after = after ≡ errno
+KeepsEngineErrno (Err NoMemory) before after = after ≡ before
 
 -- as an error of the system
-abbrev pub IsToldAs : EngineFault → Error → Type 0
-IsToldAs (Stranger n) e = error_kind e ≡ InvalidData
-IsToldAs (Fault errno) e = raw_os_error e ≡ Some (cast_signed w32 errno)
-IsToldAs NoMemory e = error_kind e ≡ OutOfMemory
+abbrev pub EngineFaultIsToldAs : EngineFault → Error → Type 0
+EngineFaultIsToldAs (Stranger n) e = error_kind e ≡ InvalidData
+EngineFaultIsToldAs (Fault errno) e = raw_os_error e ≡ Some (cast_signed w32 errno)
+EngineFaultIsToldAs NoMemory e = error_kind e ≡ OutOfMemory
 
 abbrev pub start_kind : StartFault → ErrorKind
 start_kind (starts.KeyInUse buf) = AlreadyExists

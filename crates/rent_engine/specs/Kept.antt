@@ -9,7 +9,7 @@ use Rattle.rent_engine.specs.declared.ops.Lifecycle.{Lifecycle}
 use Rattle.rent_engine.specs.declared.ops.Lifecycle.TheVariants.{InFlight, Done}
 use Rattle.rent_engine.specs.contracts.ops.Flight as flights
 use Rattle.rent_engine.specs.contracts.ops.OpDone as outcomes
-use Rattle.rent_engine.specs.Numbered.{picked}
+use Rattle.rent_engine.specs.NumberedSlab.{picked}
 use Rattle.rent_engine.specs.Ops.{Ops}
 
 -- the operations, and how many more fit with no memory

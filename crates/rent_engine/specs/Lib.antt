@@ -2,7 +2,7 @@ pub mod Engines
 pub mod Faults
 pub mod Kept
 pub mod Laws
-pub mod Numbered
+pub mod NumberedSlab
 pub mod OneOp
 pub mod Ops
 pub mod States

@@ -13,7 +13,7 @@ use Rattle.rent_engine.specs.declared.fault.EngineFault.{EngineFault}
 use Rattle.rent_engine.specs.declared.ops.TurnReport.{TurnReport}
 use Rattle.rent_engine.specs.Ops.{Ops}
 use Rattle.rent_engine.specs.Engines.{Pumped, finals_in}
-use Rattle.rent_engine.specs.Faults.{ending, fault_of}
+use Rattle.rent_engine.specs.Faults.{ending, engine_fault_of}
 
 module _ {W : Type 0} (m : Machine W) {P R : Type 0} (log : P → Option (List LogEvent)) (state : P → Option (State W)) (lists : R → Option Lists) (ready space : R → ℕ) (moved : R → List Taken → List Completion → R → Type 0) (flags_word : R → ℕ) (used : R → List Taken → List Completion → R → Type 0) where
   -- what was offered is published, and the partner enters once, over all that is published, and waits for one completion
@@ -31,7 +31,7 @@ module _ {W : Type 0} (m : Machine W) {P R : Type 0} (log : P → Option (List L
     TurnEnds (Ok taken) left after ops ops' result =
         (p : Pumped used lists room waiting left after ops ops' (ending result))
         × IfOk result (λ report. (report.taken ≡ taken) × (report.finals ≡ finals_in p.completions))
-    TurnEnds (Err error) left after ops ops' result = (after ≡ left) × (ops' ≡ ops) × (result ≡ Err (fault_of error))
+    TurnEnds (Err error) left after ops ops' result = (after ≡ left) × (ops' ≡ ops) × (result ≡ Err (engine_fault_of error))
 
     pub record Turned (params : Parameters) (old new : P) (before after : R) (ops ops' : Ops) (result : Result TurnReport EngineFault) : Type 0 where
       pub left : R

@@ -4,7 +4,7 @@ ghost use Rattle.std.specs.Prelude.{◌≡◌, ◌+◌, ◌^◌, ◌-◌, ◌≤
 ghost use Rattle.uring_base.specs.Loans.{loan_buf};
 ghost use Rattle.rent_engine.specs.Ops.{is_stranger, has_strange_loan, completed, step_of};
 ghost use Rattle.rent_engine.specs.Engines.{Pumped, finals_in};
-ghost use Rattle.rent_engine.specs.Faults.{ending, is_fault};
+ghost use Rattle.rent_engine.specs.Faults.{ending, is_engine_fault};
 
 use crate::engine::Engine;
 use crate::fault::EngineFault;
@@ -58,7 +58,7 @@ impl<R: UserEnds> Engine<R> {
         ensures pumped { (p : Pumped R.used R.lists R.room R.waiting self.old.ring self.new.ring self.old.ops self.new.ops (ending result))
             × IfOk result (λ report. (report.taken ≡ 0) × (report.finals ≡ finals_in p.completions)) }
         ensures none_left { OnOk result (R.waiting self.new.ring ≡ 0) }
-        ensures faults { IfErr result (λ fault. is_fault fault ≡ false) }
+        ensures faults { IfErr result (λ fault. is_engine_fault fault ≡ false) }
         ensures spare { self.old.spare ≤ self.new.spare }
         ensures params { self.new.params ≡ self.old.params }
     {

@@ -2,6 +2,8 @@
 
 ghost use Rattle.std.specs.Prelude.{◌≡◌};
 
+use partner_traits::PartnerError;
+use std::alloc::AllocError;
 use std::fmt::{Debug, Formatter, Write};
 use std::{fmt, io};
 use thiserror::Error;
@@ -29,6 +31,18 @@ impl Debug for StartFault {
             StartFault::RingFull(_) => "RingFull(..)",
             StartFault::NoMemory(_) => "NoMemory(..)",
         })
+    }
+}
+
+/// For a start that lends no buffer.
+impl From<AllocError> for StartFault {
+    ghost use Rattle.std.specs.Prelude.{None};
+    ghost use Rattle.rent_engine.specs.declared.fault.StartFault.TheVariants.{NoMemory};
+
+    ghost from_gives = { λ _ fault. fault ≡ NoMemory None };
+
+    fn from(_error: AllocError) -> StartFault {
+        StartFault::NoMemory(None)
     }
 }
 
@@ -60,10 +74,31 @@ pub enum EngineFault {
     NoMemory,
 }
 
-impl From<SubmitError> for EngineFault {
-    ghost use Rattle.rent_engine.specs.Faults.{fault_of};
+impl From<AllocError> for EngineFault {
+    ghost use Rattle.rent_engine.specs.declared.fault.EngineFault.TheVariants.{NoMemory};
 
-    ghost from_gives = { λ error fault. fault ≡ fault_of error };
+    ghost from_gives = { λ _ fault. fault ≡ NoMemory };
+
+    fn from(_error: AllocError) -> EngineFault {
+        EngineFault::NoMemory
+    }
+}
+
+impl From<PartnerError> for EngineFault {
+    ghost use Rattle.uring_submit.specs.Errors.{error_of};
+    ghost use Rattle.rent_engine.specs.Faults.{engine_fault_of};
+
+    ghost from_gives = { λ error fault. fault ≡ engine_fault_of (error_of error) };
+
+    fn from(error: PartnerError) -> EngineFault {
+        EngineFault::from(SubmitError::from(error))
+    }
+}
+
+impl From<SubmitError> for EngineFault {
+    ghost use Rattle.rent_engine.specs.Faults.{engine_fault_of};
+
+    ghost from_gives = { λ error fault. fault ≡ engine_fault_of error };
 
     fn from(error: SubmitError) -> EngineFault {
         match error {
@@ -76,9 +111,9 @@ impl From<SubmitError> for EngineFault {
 }
 
 impl From<EngineFault> for io::Error {
-    ghost use Rattle.rent_engine.specs.Faults.{IsToldAs};
+    ghost use Rattle.rent_engine.specs.Faults.{EngineFaultIsToldAs};
 
-    ghost from_gives = { IsToldAs };
+    ghost from_gives = { EngineFaultIsToldAs };
 
     fn from(fault: EngineFault) -> io::Error {
         match fault {

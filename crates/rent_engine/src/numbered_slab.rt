@@ -2,7 +2,7 @@
 
 ghost use Rattle.std.specs.Prelude.{◌≡◌, ◌+◌, ◌^◌, ◌<◌, ◌≤◌, true, None, OnOk, IsOk, is_some, option_copied};
 ghost use Rattle.std.specs.FinMap.{empty, insert, len, remove};
-ghost use Rattle.rent_engine.specs.Numbered.{at};
+ghost use Rattle.rent_engine.specs.NumberedSlab.{at};
 
 use slab::Slab;
 use std::alloc::{AllocError, Global};
@@ -20,11 +20,11 @@ impl<T> Model for NumberedSlab<T> {
     ghost use Rattle.std.specs.Prelude.{min};
     ghost use Rattle.std.specs.HashMap.{spare};
     ghost use Rattle.slab.specs.Slab.{get};
-    ghost use Rattle.rent_engine.specs.Numbered.{Numbered, numbered_code, picked, slab_room, IsIndexed};
+    ghost use Rattle.rent_engine.specs.NumberedSlab.{SlabContents, contents_code, picked, slab_room, IsIndexed};
 
-    ghost Value = { Numbered T };
+    ghost Value = { SlabContents T };
 
-    ghost coded = { numbered_code T.code };
+    ghost coded = { contents_code T.code };
 
     ghost view = { λ t. record { entries = picked (get t.places) t.index.entries; spare = min (slab_room t.places) (spare t.index) } };
 

@@ -58,8 +58,8 @@ impl<R: UserEnds> Engine<R> {
     }
 
     /// Starts the cancel of the operation of number `target`, as an operation of its own. Its
-    /// result is the partner's: 0 where it marked an operation of that number, and -2 (`ENOENT`)
-    /// where it found none. What was marked stays in flight until its own completion.
+    /// result is the partner's: 0 where it marked an operation of that number, and `-ENOENT` where
+    /// it found none. What was marked stays in flight until its own completion.
     pub fn cancel(&mut self, alloc: Global, target: u64, number: u64) -> Result<OpKey, StartFault>
         ensures key { IfOk result (λ key. key ≡ number) }
         ensures ops { OnOk result (self.new.ops ≡ started number false self.old.ops) }

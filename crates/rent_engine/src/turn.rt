@@ -3,8 +3,8 @@
 ghost use Rattle.std.specs.Prelude.{◌≡◌, ◌≤◌, ◌^◌, ◌<◌, true, IfErr, IfOk, IfSome, IsTrue, OnOk, Contains};
 ghost use Rattle.uring_base.specs.Causes.{HasCause};
 ghost use Rattle.partner_traits.specs.Calls.{later_plan};
-ghost use Rattle.uring_submit.specs.Errors.{KeepsErrno as KeepsSubmitErrno, is_fault as is_submit_fault, is_of_partner};
-ghost use Rattle.rent_engine.specs.Faults.{KeepsErrno, is_fault};
+ghost use Rattle.uring_submit.specs.Errors.{KeepsSubmitErrno, is_of_partner, is_submit_fault};
+ghost use Rattle.rent_engine.specs.Faults.{KeepsEngineErrno, is_engine_fault};
 ghost use Rattle.rent_engine.specs.Turns.{Turned, Submitted};
 
 use crate::engine::Engine;
@@ -25,11 +25,11 @@ impl<R: UserEnds + PartnerSide> Engine<R> {
     ) -> Result<TurnReport, EngineFault>
         ensures turned { Turned P.machine P.log P.state R.lists R.ready R.space R.moved R.flags_word R.used R.room R.waiting self.old.params partner.old partner.new self.old.ring self.new.ring self.old.ops self.new.ops result }
         ensures none_left { OnOk result (R.waiting self.new.ring ≡ 0) }
-        ensures cause { HasCause is_fault (P.faults partner.old) (P.faults partner.new) result }
-        ensures planned { IfSome (P.state partner.old) (λ _. IfErr result (λ fault. IsTrue (is_fault fault) → Contains (P.plan partner.old) 1)) }
+        ensures cause { HasCause is_engine_fault (P.faults partner.old) (P.faults partner.new) result }
+        ensures planned { IfSome (P.state partner.old) (λ _. IfErr result (λ fault. IsTrue (is_engine_fault fault) → Contains (P.plan partner.old) 1)) }
         ensures counted { IfSome (P.state partner.old) (λ _. ¬ Contains (P.plan partner.old) 1 → P.faults partner.new ≡ P.faults partner.old) }
         ensures plan { P.plan partner.new ≡ later_plan (P.plan partner.old) }
-        ensures errno { KeepsErrno result (P.errno partner.old) (P.errno partner.new) }
+        ensures errno { KeepsEngineErrno result (P.errno partner.old) (P.errno partner.new) }
         ensures spare { self.old.spare ≤ self.new.spare }
         ensures params { self.new.params ≡ self.old.params }
     {

@@ -1,22 +1,11 @@
 -- What the states of files give.
-use Rattle.std.specs.Prelude.{ℕ, ◌+◌, ◌≤◌, ℤ, pos, negsuc, List, [], Option, Some, None, Result, Ok, Err}
+use Rattle.std.specs.Prelude.{ℕ, ◌+◌, ◌^◌, ◌≤◌, ℤ, pos, negsuc, List, [], Option, Some, None, Result, Ok, Err}
+use Rattle.uring_base.specs.declared.limits.TheConstants.{MAX_BUFFER}
 use Rattle.rent_engine.specs.declared.one_op.OneAnswer.{OneAnswer}
 use Rattle.rent_engine.specs.declared.one_op.OneAnswer.TheVariants.{Done, InUse, NoMemory, Lost}
 use Rattle.rent_fs.specs.declared.error.FsError.{FsError}
 use Rattle.rent_fs.specs.declared.error.FsError.TheVariants as errors
-
--- the errno of an operation that failed, and 0 for another fault
-abbrev pub errno_of : FsError → ℕ
-errno_of (errors.Os errno) = errno
-errno_of errors.UnexpectedEof = 0
-errno_of errors.WriteZero = 0
-errno_of errors.Interrupted = 0
-errno_of errors.BadCount = 0
-errno_of errors.WholeTree = 0
-errno_of errors.NoBirthTime = 0
-errno_of errors.KeyInUse = 0
-errno_of errors.KeyLost = 0
-errno_of errors.NoMemory = 0
+use Rattle.rent_fs.specs.Errors.{errno_of}
 
 -- a count, or the errno of a negative result
 abbrev pub counted : ℤ → Result ℕ FsError
@@ -25,8 +14,8 @@ counted (negsuc n) = Err (errors.Os (n + 1))
 
 -- a count, or an errno, that a result of 32 bits tells
 abbrev pub IsSmall : Result ℕ FsError → Type 0
-IsSmall (Ok n) = n ≤ 2147483647
-IsSmall (Err e) = errno_of e ≤ 2147483648
+IsSmall (Ok n) = n ≤ MAX_BUFFER
+IsSmall (Err e) = errno_of e ≤ 2 ^ 31
 
 abbrev pub HasSmallCount : Result ℕ FsError × List ℕ → Type 0
 HasSmallCount output = IsSmall output.0
@@ -62,4 +51,4 @@ synced Lost = Err errors.KeyLost
 -- an errno that a result of 32 bits tells
 abbrev pub IsSmallFault : Result (Unit {0}) FsError → Type 0
 IsSmallFault (Ok _) = Unit {0}
-IsSmallFault (Err e) = errno_of e ≤ 2147483648
+IsSmallFault (Err e) = errno_of e ≤ 2 ^ 31

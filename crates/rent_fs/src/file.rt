@@ -1,6 +1,7 @@
 //! Files by number.
 
 ghost use Rattle.std.specs.Prelude.{◌≡◌, ◌+◌, ◌^◌, ◌<◌, ◌≤◌, ℕ, None, Some, length};
+ghost use Rattle.uring_base.specs.declared.limits.TheConstants.{MAX_BUFFER};
 ghost use Rattle.rent_engine.specs.declared.one_op.Stage.TheVariants.{Offers};
 ghost use Rattle.rent_engine.specs.OneOp.{addressed};
 ghost use Rattle.rent_fs.specs.Entries.{no_flags, read_entry, sync_entry, write_entry};
@@ -18,18 +19,18 @@ pub struct File {
 }
 
 impl File {
-    ghost use Rattle.rent_fs.specs.Files.{number_of};
+    ghost use Rattle.rent_fs.specs.Files.{file_number};
 
     /// The file under that number.
     pub fn of_number(number: u32) -> File
-        ensures { number_of result ≡ number }
+        ensures { file_number result ≡ number }
     {
         File { number }
     }
 
     /// Its number.
     pub fn number(&self) -> u32
-        ensures { result ≡ number_of self.now }
+        ensures { result ≡ file_number self.now }
     {
         self.number
     }
@@ -37,10 +38,10 @@ impl File {
     /// Reads from a position into a buffer, as many bytes as come. Nothing is asked for until the
     /// state is polled.
     pub fn read_at(&self, buf: Buf, pos: u64) -> ReadAt
-        requires small { length buf ≤ 2147483647 }
+        requires small { length buf ≤ MAX_BUFFER }
         requires fits { pos + length buf < 2 ^ 64 }
-        ensures offers { result ≡ Offers (record { number = None; entry = read_entry (number_of self.now) 0 (length buf) pos; buf = Some buf }) }
-        ensures entry { (n : ℕ) → addressed n (Some buf) (read_entry (number_of self.now) 0 (length buf) pos) ≡ read_entry (number_of self.now) n (length buf) pos }
+        ensures offers { result ≡ Offers (record { number = None; entry = read_entry (file_number self.now) 0 (length buf) pos; buf = Some buf }) }
+        ensures entry { (n : ℕ) → addressed n (Some buf) (read_entry (file_number self.now) 0 (length buf) pos) ≡ read_entry (file_number self.now) n (length buf) pos }
     {
         read_at(self.number, buf, pos)
     }
@@ -48,10 +49,10 @@ impl File {
     /// Writes a buffer at a position, as many bytes as are taken. Nothing is asked for until the
     /// state is polled.
     pub fn write_at(&self, buf: Buf, pos: u64) -> WriteAt
-        requires small { length buf ≤ 2147483647 }
+        requires small { length buf ≤ MAX_BUFFER }
         requires fits { pos + length buf < 2 ^ 64 }
-        ensures offers { result ≡ Offers (record { number = None; entry = write_entry (number_of self.now) 0 (length buf) pos; buf = Some buf }) }
-        ensures entry { (n : ℕ) → addressed n (Some buf) (write_entry (number_of self.now) 0 (length buf) pos) ≡ write_entry (number_of self.now) n (length buf) pos }
+        ensures offers { result ≡ Offers (record { number = None; entry = write_entry (file_number self.now) 0 (length buf) pos; buf = Some buf }) }
+        ensures entry { (n : ℕ) → addressed n (Some buf) (write_entry (file_number self.now) 0 (length buf) pos) ≡ write_entry (file_number self.now) n (length buf) pos }
     {
         write_at(self.number, buf, pos)
     }
@@ -59,7 +60,7 @@ impl File {
     /// Brings all that belongs to the file to its device, as `fsync` does. Nothing is asked for
     /// until the state is polled.
     pub fn sync_all(&self) -> Sync
-        ensures { result ≡ Offers (record { number = None; entry = sync_entry (number_of self.now) no_flags; buf = None }) }
+        ensures { result ≡ Offers (record { number = None; entry = sync_entry (file_number self.now) no_flags; buf = None }) }
     {
         sync_all(self.number)
     }
@@ -67,7 +68,7 @@ impl File {
     /// Brings the file's bytes to its device, and of what describes it only what is needed to read
     /// them back, as `fdatasync` does. Nothing is asked for until the state is polled.
     pub fn sync_data(&self) -> Sync
-        ensures { result ≡ Offers (record { number = None; entry = sync_entry (number_of self.now) FsyncFlags.DATASYNC; buf = None }) }
+        ensures { result ≡ Offers (record { number = None; entry = sync_entry (file_number self.now) FsyncFlags.DATASYNC; buf = None }) }
     {
         sync_data(self.number)
     }

@@ -1,6 +1,7 @@
 //! Writing at a position.
 
 ghost use Rattle.std.specs.Prelude.{◌≡◌, ◌≤◌, None, Some, length};
+ghost use Rattle.uring_base.specs.declared.limits.TheConstants.{MAX_BUFFER};
 ghost use Rattle.rent_engine.specs.declared.one_op.Stage.TheVariants.{Offers};
 ghost use Rattle.rent_fs.specs.Entries.{write_entry};
 
@@ -34,7 +35,7 @@ impl OpKind for Writing {
 }
 
 pub(crate) fn write_at(file: u32, buf: Buf, pos: u64) -> WriteAt
-    requires { length buf ≤ 2147483647 }
+    requires { length buf ≤ MAX_BUFFER }
     ensures { result ≡ Offers (record { number = None; entry = write_entry file 0 (length buf) pos; buf = Some buf }) }
 {
     let len = buf.len() as u32;

@@ -1,7 +1,7 @@
 //! The core of a ring: a ring of slots for numbers, by the steps of its two ends.
 
 ghost use Rattle.std.specs.Prelude.{◌≡◌, ◌<◌, ℕ, IfOk, IfErr, length, slice_get, true};
-ghost use Rattle.ring_core.specs.Machine.{Machine, opening, after_step, answer, answers};
+ghost use Rattle.ring_core.specs.RingState.{RingState, opening, after_step, answer, answers};
 ghost use Rattle.ring_core.specs.Positions.{is_ring_size};
 
 use crate::answers::{CoreAnswer, CoreAnswers};
@@ -39,7 +39,7 @@ impl Core {
     }
 
     fn put(&mut self, value: u64) -> CoreAnswer
-        ensures { (start : ℕ) (m : Machine) → Stands self.old start m → (result ≡ answer (CoreStep.Put value) m) × Stands self.new start (after_step (CoreStep.Put value) m) }
+        ensures { (start : ℕ) (m : RingState) → Stands self.old start m → (result ≡ answer (CoreStep.Put value) m) × Stands self.new start (after_step (CoreStep.Put value) m) }
     {
         if self.ring.spare() == 0 {
             return CoreAnswer::Full;
@@ -49,7 +49,7 @@ impl Core {
     }
 
     fn take(&mut self) -> CoreAnswer
-        ensures { (start : ℕ) (m : Machine) → Stands self.old start m → (result ≡ answer CoreStep.Take m) × Stands self.new start (after_step CoreStep.Take m) }
+        ensures { (start : ℕ) (m : RingState) → Stands self.old start m → (result ≡ answer CoreStep.Take m) × Stands self.new start (after_step CoreStep.Take m) }
     {
         match self.ring.take() {
             Some(value) => CoreAnswer::Got(value),
@@ -57,10 +57,10 @@ impl Core {
         }
     }
 
-    /// Takes one step of either end. Whatever machine and start the core stood for, it answers as
-    /// that machine does.
+    /// Takes one step of either end. Whatever state and start the core stood for, it answers as
+    /// that state tells, and stands for the next one.
     pub fn step(&mut self, step: CoreStep) -> CoreAnswer
-        ensures { (start : ℕ) (m : Machine) → Stands self.old start m → (result ≡ answer step m) × Stands self.new start (after_step step m) }
+        ensures { (start : ℕ) (m : RingState) → Stands self.old start m → (result ≡ answer step m) × Stands self.new start (after_step step m) }
     {
         match step {
             CoreStep::Put(value) => return self.put(value),

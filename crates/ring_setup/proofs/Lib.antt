@@ -1,1 +1,2 @@
+pub mod LeastPowers
 pub mod SizeLemmas

@@ -19,11 +19,11 @@ up_from_power (suc d) p n =
       | false ↦ (suc next.0, (omega (arith, next.1.0), next.1.1 ∙ sym (mul_assoc (2 ^ next.0) 2 p) ∙ ap (λ (x : ℕ). x * p) (sym (pow-suc 2 next.0))))
     ]
 
-at_once : (d p n : ℕ) → n ≤ p → up_from d p n ≡ p
+pub at_once : (d p n : ℕ) → n ≤ p → up_from d p n ≡ p
 at_once zero p n h = refl
 at_once (suc d) p n h = ap (λ b. if b then p else up_from d (2 * p) n) (let t : nat_le n p ≡ true = grind arith in t)
 
-once_more : (d p n : ℕ) → p < n → up_from (suc d) p n ≡ up_from d (2 * p) n
+pub once_more : (d p n : ℕ) → p < n → up_from (suc d) p n ≡ up_from d (2 * p) n
 once_more d p n h = ap (λ b. if b then p else up_from d (2 * p) n) (let t : nat_le n p ≡ false = grind arith in t)
 
 -- a power of two that is large enough, half of which isn't, is what rounding gives
@@ -130,12 +130,23 @@ pub enough_completions : (sq cq u v : ℕ) → in_range sq 32768 ≡ true → in
 enough_completions sq cq u v e f p q le = in_order sq cq true e f (at_most (rounded_up sq) (rounded_up cq) (subst (λ (x : ℕ). rounded_up sq ≤ x) q (subst (λ (x : ℕ). x ≤ v) p le)))
 
 -- ---- sizes that are valid
+opposite : true ≡ false → ⊥
+opposite e = cc
+
 first_of_three : (a b c : Bool) → ((a && b) && c) ≡ true → a ≡ true
 first_of_three true b c e = refl
 first_of_three false b c e = e
 
 pub valid_entries : (sq cq : ℕ) → is_valid_size sq cq ≡ true → (0 < sq) × (sq ≤ 32768)
 valid_entries sq cq e = in_range_within sq 32768 (first_of_three (in_range sq 32768) (in_range cq 65536) (nat_le (rounded_up sq) (rounded_up cq)) (sym (valid_parts sq cq) ∙ e))
+
+second_of_three : (a b c : Bool) → ((a && b) && c) ≡ true → b ≡ true
+second_of_three true true c e = refl
+second_of_three true false c e = e
+second_of_three false b c e = absurd (opposite (sym e))
+
+pub valid_completions : (sq cq : ℕ) → is_valid_size sq cq ≡ true → cq ≤ 65536
+valid_completions sq cq e = (in_range_within cq 65536 (second_of_three (in_range sq 32768) (in_range cq 65536) (nat_le (rounded_up sq) (rounded_up cq)) (sym (valid_parts sq cq) ∙ e))).1
 
 in_range_is : (n most : ℕ) → 0 < n → n ≤ most → in_range n most ≡ true
 in_range_is n most pos le = grind arith
@@ -146,9 +157,6 @@ twice_more u v e = omega arith
 -- twice as many completions are always enough
 pub default_valid : (n : ℕ) → 0 < n → n ≤ 32768 → is_valid_size n (2 * n) ≡ true
 default_valid n pos le = enough_completions n (2 * n) (rounded_up n) (rounded_up (2 * n)) (in_range_is n 32768 pos le) (in_range_is (2 * n) 65536 (omega arith) (omega arith)) refl refl (twice_more (rounded_up n) (rounded_up (2 * n)) (rounded_twice n pos le))
-
-opposite : true ≡ false → ⊥
-opposite e = cc
 
 pub default_invalid : (n : ℕ) → is_valid_size n (2 * n) ≡ false → (n ≡ 0) ⊎ (32768 < n)
 default_invalid n e = elim (le_or_lt n 0) [

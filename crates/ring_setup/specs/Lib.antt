@@ -1,3 +1,4 @@
 pub mod Features
+pub mod Laws
 pub mod RingFlags
 pub mod Setup

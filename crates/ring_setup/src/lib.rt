@@ -8,6 +8,7 @@ macro_rules! named_flags {
 }
 
 mod feature_flags;
+pub mod laws;
 mod parameters;
 mod ring_flags;
 mod settings;

@@ -1,4 +1,5 @@
-use crate::Settings;
+use crate::{CompletionRingFlags, FeatureFlags, Settings, SetupFlags, SubmissionFlags};
+use bitflags::Flags as _;
 use ring_core::SetupError;
 use std::test::Fail;
 
@@ -32,7 +33,7 @@ fn size_rule(rt: HostRuntime) {
 /// Counts above their maximum are cut where that is asked for, and no others.
 #[test]
 fn counts_are_cut(rt: HostRuntime) -> Result<(), Fail> {
-    let mut settings = Settings::new(16);
+    let mut settings = Settings::new(SetupFlags::CLAMP.bits());
     let largest = settings.parameters(4294967295)?;
     assert_eq!(rt;
         (largest.sq_entries(), largest.cq_entries()),
@@ -48,32 +49,11 @@ fn counts_are_cut(rt: HostRuntime) -> Result<(), Fail> {
     Ok(())
 }
 
-/// A ring of which no bit is asked has all features, and none of the setup bits.
+/// The bits are those of the Linux io_uring header.
 #[test]
-fn bits_of_parameters(rt: HostRuntime) -> Result<(), Fail> {
-    let parameters = Settings::new(0).parameters(3)?;
-    assert!(rt; !parameters.is_setup_sqpoll());
-    assert!(rt; !parameters.is_setup_iopoll());
-    assert!(rt; !parameters.is_setup_single_issuer());
-    assert!(rt; parameters.is_feature_single_mmap());
-    assert!(rt; parameters.is_feature_nodrop());
-    assert!(rt; parameters.is_feature_submit_stable());
-    assert!(rt; parameters.is_feature_rw_cur_pos());
-    assert!(rt; parameters.is_feature_cur_personality());
-    assert!(rt; parameters.is_feature_fast_poll());
-    assert!(rt; parameters.is_feature_poll_32bits());
-    assert!(rt; parameters.is_feature_sqpoll_nonfixed());
-    assert!(rt; parameters.is_feature_ext_arg());
-    assert!(rt; parameters.is_feature_native_workers());
-    assert!(rt; parameters.is_feature_resource_tagging());
-    assert!(rt; parameters.is_feature_skip_cqe_on_success());
-    assert!(rt; parameters.is_feature_linked_file());
-    assert!(rt; parameters.is_feature_reg_reg_ring());
-    assert!(rt; parameters.is_feature_recvsend_bundle());
-    assert!(rt; parameters.is_feature_min_timeout());
-    assert!(rt; parameters.is_feature_no_iowait());
-    assert_eq!(rt; parameters.sq_entries(), 4);
-    assert_eq!(rt; parameters.sq_thread_idle(), 0);
-    assert_eq!(rt; parameters.cq_entries(), 8);
-    Ok(())
+fn bits_of_the_header(rt: HostRuntime) {
+    assert_eq!(rt; SetupFlags::all().bits(), 81919);
+    assert_eq!(rt; FeatureFlags::all().bits(), 196607);
+    assert_eq!(rt; SubmissionFlags::all().bits(), 7);
+    assert_eq!(rt; CompletionRingFlags::all().bits(), 1);
 }

@@ -9,7 +9,7 @@ mod rings;
 
 use std::time::{Duration, Instant};
 use std::{fmt, io};
-use uring_ring::{IoUring, SetupError};
+use uring_ring::IoUring;
 
 /// How many rounds are made.
 const ROUNDS: u32 = 15_625;
@@ -83,12 +83,7 @@ fn tell(rt: &HostRuntime, name: &str, passed: Passed, time: Duration) -> io::Res
 }
 
 fn main(rt: HostRuntime) -> io::Result<()> {
-    let mut ring = match IoUring::new(rt.alloc(), IN_ROUND) {
-        Ok(ring) => ring,
-        Err(SetupError::Invalid | SetupError::NoMemory) => return Err(
-            io::ErrorKind::OutOfMemory.into(),
-        ),
-    };
+    let mut ring = IoUring::new(rt.alloc(), IN_ROUND)?;
     let start = Instant::now(&rt)?;
     let passed = through_rings(&mut ring);
     tell(&rt, "rings", passed, start.elapsed(&rt)?)?;

@@ -18,8 +18,8 @@ use Rattle.run_loop.specs.declared.slot.Reply.{Reply}
 use Rattle.run_loop.specs.declared.slot.Slot.{Slot}
 use Rattle.run_loop.specs.declared.slot.Slot.TheVariants.{Open, Done}
 use Rattle.run_loop.specs.Told.{lends}
-use Rattle.run_loop.specs.Slots.{is_strange_at, is_stranger}
-use Rattle.run_loop.specs.Flights.{WasLent, flight_of, flight_in, outcome_polled, polled_slot, polled_from, all_polled, with_polled, left_by, times_in, AreOperated, NoneResolved}
+use Rattle.run_loop.specs.Slots.{is_strange_at, is_unexpected}
+use Rattle.run_loop.specs.Flights.{WasLent, slot_flight, flight_in, outcome_polled, polled_slot, polled_from, all_polled, with_polled, left_by, times_in, AreOperated, NoneResolved}
 
 -- lists by their places
 
@@ -103,18 +103,18 @@ loan_strange lends n last (Some loan) = by_number lends last (nat_eq loan.number
     by_number false last true = refl
     by_number false last false = refl
 
-strange_in : (b : Bool) (slot : Option Slot) (c : Completion) → is_strange_for (cond b (flight_of slot) None) c ≡ (not b || is_strange_at slot c)
+strange_in : (b : Bool) (slot : Option Slot) (c : Completion) → is_strange_for (cond b (slot_flight slot) None) c ≡ (not b || is_strange_at slot c)
 strange_in true None c = refl
 strange_in true (Some (Open reply)) c = loan_strange (lends reply) c.user_data (is_final c.flags) c.loan
 strange_in true (Some (Done o)) c = refl
 strange_in false slot c = refl
 
 -- the engine's strangers are those of the slots
-pub same_stranger : (ops : Ops) (begun : ℕ) (slots : List Slot) (c : Completion) → flight_at ops c.user_data ≡ flight_in begun slots c.user_data → engine.is_stranger ops c ≡ is_stranger begun slots c
+pub same_stranger : (ops : Ops) (begun : ℕ) (slots : List Slot) (c : Completion) → flight_at ops c.user_data ≡ flight_in begun slots c.user_data → engine.is_stranger ops c ≡ is_unexpected begun slots c
 same_stranger ops begun slots c e = ap (λ o. is_strange_for o c) e ∙ strange_in (nat_lt c.user_data begun) (slice_get slots c.user_data) c
 
 -- an operation in flight is of a started job with an open slot
-pub flight_open : (b : Bool) (slot : Option Slot) (flight : Flight) → cond b (flight_of slot) None ≡ Some flight → (reply : Reply) × (b ≡ true) × (slot ≡ Some (Open reply)) × (lends reply ≡ flight.lent) × (flight.forgotten ≡ false)
+pub flight_open : (b : Bool) (slot : Option Slot) (flight : Flight) → cond b (slot_flight slot) None ≡ Some flight → (reply : Reply) × (b ≡ true) × (slot ≡ Some (Open reply)) × (lends reply ≡ flight.lent) × (flight.forgotten ≡ false)
 flight_open true None flight e = let bad : None ≡ Some flight = e in cc
 flight_open true (Some (Open reply)) flight e =
     let same : Some (record { lent = lends reply; forgotten = false }) ≡ Some flight = e in

@@ -13,7 +13,7 @@ use Rattle.run_loop.specs.declared.slot.Slot.TheVariants.{Open, Done}
 use Rattle.run_loop.specs.JobOps.{reply_of}
 use Rattle.run_loop.specs.Told.{lends}
 use Rattle.run_loop.specs.Steps.{CanBePolled}
-use Rattle.run_loop.specs.Flights.{WasLent, outcome_polled, with_polled, times_in, AreOperated, AreReplied, jobs_of}
+use Rattle.run_loop.specs.Flights.{WasLent, outcome_polled, with_polled, times_in, AreOperated, AreReplied, jobs_in_flight}
 use Rattle.run_loop.proofs.FlightLemmas.{itself, known_once, if_then}
 
 pub all_last : {A : Type 0} (P : A → Type 0) (xs : List A) (x : A) → AllByRecursion P xs → P x → AllByRecursion P (xs ++ x ∷ [])
@@ -33,12 +33,12 @@ open_before own (Pending k) slots job n reply e = e
 open_before own (Lost k) slots job n reply e = e
 
 -- the first of the jobs in flight can be polled, and where it is resolved its slot waits for it
-pub can_poll : (ops : Ops) (begun : ℕ) (slots : List Slot) (flights : List InFlight) (jobs : List ℕ) (f : InFlight) (rest : List InFlight) → jobs_of flights ≡ jobs → flights ≡ f ∷ rest → AreOperated ops begun slots jobs → AreReplied slots flights
+pub can_poll : (ops : Ops) (begun : ℕ) (slots : List Slot) (flights : List InFlight) (jobs : List ℕ) (f : InFlight) (rest : List InFlight) → jobs_in_flight flights ≡ jobs → flights ≡ f ∷ rest → AreOperated ops begun slots jobs → AreReplied slots flights
     → CanBePolled ops f.job f.op × IfSome (done_at ops f.job) (λ _. slice_get slots f.job ≡ Some (Open (reply_of f.op)))
 can_poll ops begun slots flights jobs f rest e g a l =
-    let first : jobs ≡ f.job ∷ jobs_of rest = sym e ∙ ap jobs_of g in
+    let first : jobs ≡ f.job ∷ jobs_in_flight rest = sym e ∙ ap jobs_in_flight g in
     let count : times_in f.job jobs ≡ cond (knows ops f.job) 1 0 = a.listed f.job in
-    let more : times_in f.job jobs ≡ 1 + times_in f.job (jobs_of rest) = ap (times_in f.job) first ∙ ap (λ b. cond b 1 0 + times_in f.job (jobs_of rest)) (itself f.job) in
+    let more : times_in f.job jobs ≡ 1 + times_in f.job (jobs_in_flight rest) = ap (times_in f.job) first ∙ ap (λ b. cond b 1 0 + times_in f.job (jobs_in_flight rest)) (itself f.job) in
     let kinds : AllByRecursion (λ x. reply_of x.op ≡ l.replies x.job) (f ∷ rest) = subst (AllByRecursion (λ x. reply_of x.op ≡ l.replies x.job)) g l.of_flights in
     let same : (d : OpDone) (w : WasLent slots f.job d) → w.reply ≡ reply_of f.op = λ d w. l.of_slots f.job w.reply w.slot ∙ sym kinds.0 in (
       record {

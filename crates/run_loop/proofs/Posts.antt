@@ -16,7 +16,7 @@ use Rattle.run_loop.specs.declared.slot.Slot.TheVariants.{Open, Done}
 use Rattle.run_loop.specs.declared.entries.Offer.{Offer}
 use Rattle.run_loop.specs.Entries.{reply_in, lends_in, offers_from}
 use Rattle.run_loop.specs.Told.{Ending, first_final, idle_turns, reply_for, lends, outcome_from}
-use Rattle.run_loop.specs.Slots.{final_of, told_slot, slots_from, count_open, is_strange_at, is_stranger, open_slots, land_in, land_one, land_all, stranger_among, any_final}
+use Rattle.run_loop.specs.Slots.{final_of, told_slot, slots_from, count_open, is_strange_at, is_unexpected, open_slots, land_in, land_one, land_all, stranger_among, any_final}
 use Rattle.run_loop.proofs.SlotLemmas.{count_of_done, due_open}
 
 -- the slots before the run are those of the jobs
@@ -80,21 +80,21 @@ lands_at n (suc k) (offer ∷ offers) cs c r f e h =
     λ i. told_slot offer.reply (sym here i) ∷ rest i
 
 -- a completion that is no stranger lands where its job stands
-lands_if : (b : Bool) (started : ℕ) (offers : List Offer) (cs : List Completion) (c : Completion) → is_final c.flags ≡ b → is_stranger started (slots_from 0 offers cs) c ≡ false
+lands_if : (b : Bool) (started : ℕ) (offers : List Offer) (cs : List Completion) (c : Completion) → is_final c.flags ≡ b → is_unexpected started (slots_from 0 offers cs) c ≡ false
     → cond b (land_in (slice_get (slots_from 0 offers cs) c.user_data) (slots_from 0 offers cs) c.user_data (record { result = c.result; loan = c.loan })) (slots_from 0 offers cs) ≡ slots_from 0 offers (cs ++ c ∷ [])
 lands_if true started offers cs c f h =
     let o = due_open started (slots_from 0 offers cs) c h in
     ap (λ slot. land_in slot (slots_from 0 offers cs) c.user_data (record { result = c.result; loan = c.loan })) o.1 ∙ lands_at 0 c.user_data offers cs c o.0 f (omega arith) o.1
 lands_if false started offers cs c f h = sym (slots_same 0 offers cs c (λ j q. no_final (is_final c.flags) (nat_eq c.user_data j) f))
 
-pub lands : (started : ℕ) (offers : List Offer) (cs : List Completion) (c : Completion) → is_stranger started (slots_from 0 offers cs) c ≡ false → land_one (slots_from 0 offers cs) c ≡ slots_from 0 offers (cs ++ c ∷ [])
+pub lands : (started : ℕ) (offers : List Offer) (cs : List Completion) (c : Completion) → is_unexpected started (slots_from 0 offers cs) c ≡ false → land_one (slots_from 0 offers cs) c ≡ slots_from 0 offers (cs ++ c ∷ [])
 lands started offers cs c h = lands_if (is_final c.flags) started offers cs c refl h
 
 -- the same over several
 pub lands_all : (started : ℕ) (offers : List Offer) (cs ds : List Completion) → stranger_among started (slots_from 0 offers cs) ds ≡ None → land_all (slots_from 0 offers cs) ds ≡ slots_from 0 offers (cs ++ ds)
 lands_all started offers cs [] h = ap (slots_from 0 offers) (sym (append-nil cs))
 lands_all started offers cs (d ∷ ds) h =
-    let p = passes (is_stranger started (slots_from 0 offers cs) d) d.user_data (stranger_among started (land_one (slots_from 0 offers cs) d) ds) h in
+    let p = passes (is_unexpected started (slots_from 0 offers cs) d) d.user_data (stranger_among started (land_one (slots_from 0 offers cs) d) ds) h in
     let one = lands started offers cs d p.0 in
     ap (λ x. land_all x ds) one
     ∙ lands_all started offers (cs ++ d ∷ []) ds (ap (λ x. stranger_among started x ds) (sym one) ∙ p.1)
@@ -127,7 +127,7 @@ below_yes : (m n : ℕ) → nat_lt m n ≡ true → m < n
 below_yes m n e = grind (arith, nat_tests)
 
 pub same_stranger : (offers : List Offer) (cs : List Completion) (c : Completion) (seen : Seen) → Tells seen cs → seen.started ≤ length offers
-    → is_stranger seen.started (slots_from 0 offers cs) c ≡ is_strange (lends_in offers) seen c.user_data (is_final c.flags) c.loan
+    → is_unexpected seen.started (slots_from 0 offers cs) c ≡ is_strange (lends_in offers) seen c.user_data (is_final c.flags) c.loan
 same_stranger offers cs c seen t h =
     strange_if (nat_lt c.user_data seen.started) offers cs c (list_any (nat_eq c.user_data) seen.ended) (λ b. let k = below_yes c.user_data seen.started b in omega arith) (t c.user_data)
 
@@ -207,7 +207,7 @@ same_strangers offers cs seen (Turned p ∷ ms) z t h = absurd (omega arith)
 same_strangers offers cs seen (Took u ∷ ms) z t h = same_strangers offers cs (record seen { taken = seen.taken + 1 }) ms z t h
 same_strangers offers cs seen (Posted c ∷ ms) z t h =
     let later = record seen { ended = cond (is_final c.flags) (c.user_data ∷ seen.ended) seen.ended } in
-    let b = is_stranger seen.started (slots_from 0 offers cs) c in
+    let b = is_unexpected seen.started (slots_from 0 offers cs) c in
     ap (λ x. cond x (Some c.user_data) (first_strange (lends_in offers) later (log_of ms))) (sym (same_stranger offers cs c seen t h))
     ∙ either_way b c.user_data _ _ (λ e.
     same_strangers offers (cs ++ c ∷ []) later ms z (tells_more seen cs c t) h
@@ -242,14 +242,14 @@ same_final j (Posted c ∷ ms) = ap (cond (is_final c.flags && nat_eq c.user_dat
 
 -- counts of open slots
 
-landed_count : (b : Bool) (started : ℕ) (slots : List Slot) (c : Completion) → is_stranger started slots c ≡ false → (e : Ending) → count_open (cond b (land_in (slice_get slots c.user_data) slots c.user_data e) slots) + cond b 1 0 ≡ count_open slots
+landed_count : (b : Bool) (started : ℕ) (slots : List Slot) (c : Completion) → is_unexpected started slots c ≡ false → (e : Ending) → count_open (cond b (land_in (slice_get slots c.user_data) slots c.user_data e) slots) + cond b 1 0 ≡ count_open slots
 landed_count true started slots c h e =
     let p = due_open started slots c h in
     let landed : count_open (land_in (slice_get slots c.user_data) slots c.user_data e) ≡ count_open (slice_set slots c.user_data (Done (outcome_from p.0 e))) = ap (λ slot. count_open (land_in slot slots c.user_data e)) p.1 in
     omega (arith, landed, count_of_done slots c.user_data p.0 (outcome_from p.0 e) p.1)
 landed_count false started slots c h e = omega arith
 
-pub one_landed : (started : ℕ) (slots : List Slot) (c : Completion) → is_stranger started slots c ≡ false → count_open (land_one slots c) + cond (is_final c.flags) 1 0 ≡ count_open slots
+pub one_landed : (started : ℕ) (slots : List Slot) (c : Completion) → is_unexpected started slots c ≡ false → count_open (land_one slots c) + cond (is_final c.flags) 1 0 ≡ count_open slots
 one_landed started slots c h = landed_count (is_final c.flags) started slots c h (record { result = c.result; loan = c.loan })
 
 pub none_landed : (slots : List Slot) (cs : List Completion) → any_final cs ≡ false → land_all slots cs ≡ slots
@@ -271,7 +271,7 @@ counted false false x y z e h = omega arith
 pub all_landed : (started : ℕ) (slots : List Slot) (cs : List Completion) → stranger_among started slots cs ≡ None → count_open (land_all slots cs) + cond (any_final cs) 1 0 ≤ count_open slots
 all_landed started slots [] h = omega arith
 all_landed started slots (c ∷ cs) h =
-    let p = passes (is_stranger started slots c) c.user_data (stranger_among started (land_one slots c) cs) h in
+    let p = passes (is_unexpected started slots c) c.user_data (stranger_among started (land_one slots c) cs) h in
     counted (is_final c.flags) (any_final cs) (count_open (land_all (land_one slots c) cs)) (count_open (land_one slots c)) (count_open slots) (one_landed started slots c p.0) (all_landed started (land_one slots c) cs p.1)
 
 pub open_few : (n : ℕ) (offers : List Offer) (cs : List Completion) → count_open (slots_from n offers cs) ≤ length offers
@@ -300,16 +300,16 @@ big_apart None c big = refl
 big_apart (Some (Done o)) c big = refl
 big_apart (Some (Open reply)) c big = refl
 
-kept_stranger : (kept : Completion → Completion) → ((c : Completion) → IsKept c (kept c)) → (started : ℕ) (slots : List Slot) (c : Completion) → is_stranger started slots (kept c) ≡ is_stranger started slots c
+kept_stranger : (kept : Completion → Completion) → ((c : Completion) → IsKept c (kept c)) → (started : ℕ) (slots : List Slot) (c : Completion) → is_unexpected started slots (kept c) ≡ is_unexpected started slots c
 kept_stranger kept k started slots c =
-    ap (is_stranger started slots) (k c)
+    ap (is_unexpected started slots) (k c)
     ∙ ap (λ b. not (nat_lt c.user_data started) || b) (big_apart (slice_get slots c.user_data) c (kept c).big)
 
 pub stranger_kept : (kept : Completion → Completion) → ((c : Completion) → IsKept c (kept c)) → (started : ℕ) (slots : List Slot) (cs : List Completion) → stranger_among started slots (map kept cs) ≡ stranger_among started slots cs
 stranger_kept kept k started slots [] = refl
 stranger_kept kept k started slots (c ∷ cs) =
     (λ i. cond (kept_stranger kept k started slots c i) (Some (k c i).user_data) (stranger_among started (land_one slots (k c i)) (map kept cs)))
-    ∙ ap (cond (is_stranger started slots c) (Some c.user_data)) (stranger_kept kept k started (land_one slots c) cs)
+    ∙ ap (cond (is_unexpected started slots c) (Some c.user_data)) (stranger_kept kept k started (land_one slots c) cs)
 
 pub land_kept : (kept : Completion → Completion) → ((c : Completion) → IsKept c (kept c)) → (slots : List Slot) (cs : List Completion) → land_all slots (map kept cs) ≡ land_all slots cs
 land_kept kept k slots [] = refl

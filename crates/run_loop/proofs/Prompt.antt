@@ -7,7 +7,7 @@ use Rattle.uring_model.specs.Chosen.{choice, stops}
 use Rattle.uring_model.specs.Moves.{Move, Turned, Took, Posted, took, posted}
 use Rattle.uring_model.specs.Machine.{Files}
 use Rattle.uring_model.specs.Schedule.{Machine, State, Cursor, cursors, named, Steps, IsServed, after_take, cut_of, Outturn, turn, take_all, settle_turn, settle_then, settled_by, stays}
-use Rattle.uring_model.specs.Refines.{seen, IsIdle}
+use Rattle.uring_model.specs.Refines.{seen, IsPlainAndIdle}
 use Rattle.uring_model.specs.Schedule as schedule
 use Rattle.uring_model.specs.Asks.{IsJobEntry}
 use Rattle.std.specs.List.{AllByRecursion}
@@ -16,7 +16,7 @@ use Rattle.ring_traits.specs.Lists.{Lists, room_of}
 use Rattle.partner_traits.specs.Calls.{IsTurnOf}
 use Rattle.run_loop.specs.declared.slot.Slot.{Slot}
 use Rattle.run_loop.specs.Laws.{ModelLaws}
-use Rattle.run_loop.specs.Slots.{count_open, is_stranger, land_one, land_all, stranger_among, any_final}
+use Rattle.run_loop.specs.Slots.{count_open, is_unexpected, land_one, land_all, stranger_among, any_final}
 use Rattle.run_loop.proofs.Posts.{one_landed, passes}
 
 pub served_some : {W : Type 0} (mach : Machine W) (a : State W) (ms : List Move) (o : Option (State W)) → IsServed mach (Some a) ms o → (b : State W) × (o ≡ Some b) × Steps mach true a ms b
@@ -65,7 +65,7 @@ final_any (c ∷ cs) f h = rw f.0 refl
 pub each_lands : (started : ℕ) (slots : List Slot) (cs : List Completion) → AllFinal cs → stranger_among started slots cs ≡ None → count_open (land_all slots cs) + length cs ≡ count_open slots
 each_lands started slots [] f h = omega arith
 each_lands started slots (c ∷ cs) f h =
-    let p = passes (is_stranger started slots c) c.user_data (stranger_among started (land_one slots c) cs) h in
+    let p = passes (is_unexpected started slots c) c.user_data (stranger_among started (land_one slots c) cs) h in
     let one : count_open (land_one slots c) + 1 ≡ count_open slots = ap (λ b. count_open (land_one slots c) + cond b 1 0) (sym f.0) ∙ one_landed started slots c p.0 in
     let rest = each_lands started (land_one slots c) cs f.1 p.1 in
     omega (arith, one, rest)
@@ -78,7 +78,7 @@ pub same_turn : (p q : ℕ) (rest : List Move) (ts : List Taken) (cs : List Comp
 same_turn p q rest ts cs ms e f = let h : ◌≡◌ {A = List Move} (Turned p ∷ rest) (moves_of_turn q ts cs) = sym e ∙ f in cc
 
 -- a turn of such a partner posts, while a job is open
-pub turn_pays : {W : Type 0} (mach : Machine W) (view : W → Files) (Plain : W → Type 0) (laws : ModelLaws mach view Plain) (a b : State W) (run ms rest : List Move) (at : Lists) (n p capacity unfinished : ℕ) → IsIdle Plain a → Steps mach true a run b → AllByRecursion IsJobEntry (took run) → (w : IsTurnOf mach b at ms) → AllByRecursion IsJobEntry w.ts → ms ≡ Turned p ∷ rest
+pub turn_pays : {W : Type 0} (mach : Machine W) (view : W → Files) (Plain : W → Type 0) (laws : ModelLaws mach view Plain) (a b : State W) (run ms rest : List Move) (at : Lists) (n p capacity unfinished : ℕ) → IsPlainAndIdle Plain a → Steps mach true a run b → AllByRecursion IsJobEntry (took run) → (w : IsTurnOf mach b at ms) → AllByRecursion IsJobEntry w.ts → ms ≡ Turned p ∷ rest
     → (p ≡ capacity) ⊎ (length (took run) + p ≡ n) → 0 < capacity → 0 < room_of at → unfinished + length (posted run) ≡ n → 0 < unfinished
     → 0 < length (turn mach w.ts (room_of at) b).posts
 turn_pays mach view Plain laws a b run ms rest at n p capacity unfinished idle steps six w six_ts moves full cap room count left =

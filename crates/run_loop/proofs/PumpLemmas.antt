@@ -14,8 +14,8 @@ use Rattle.run_loop.specs.declared.slot.Reply.{Reply}
 use Rattle.run_loop.specs.declared.slot.Slot.{Slot}
 use Rattle.run_loop.specs.declared.slot.Slot.TheVariants.{Open, Done}
 use Rattle.run_loop.specs.Told.{lends, outcome_from}
-use Rattle.run_loop.specs.Slots.{is_stranger, land_in, land_one, land_all, stranger_among}
-use Rattle.run_loop.specs.Flights.{WasLent, flight_of, flight_in, all_polled, AreOperated}
+use Rattle.run_loop.specs.Slots.{is_unexpected, land_in, land_one, land_all, stranger_among}
+use Rattle.run_loop.specs.Flights.{WasLent, slot_flight, flight_in, all_polled, AreOperated}
 use Rattle.run_loop.proofs.FlightLemmas.{either_way, same_lists, set_here, set_else, at_insert, at_remove, itself, polled_at, at_all, apart, same_stranger}
 
 -- a last completion that is due brings a buffer back exactly where one was lent
@@ -29,7 +29,7 @@ some_flight : (o : Option Flight) (c : Completion) → is_strange_for o c ≡ fa
 some_flight None c e = cc
 some_flight (Some flight) c e = (flight, refl)
 
-no_flight : (b : Bool) (slot : Option Slot) → flight_of slot ≡ None → cond b (flight_of slot) None ≡ None
+no_flight : (b : Bool) (slot : Option Slot) → slot_flight slot ≡ None → cond b (slot_flight slot) None ≡ None
 no_flight true slot e = e
 no_flight false slot e = refl
 
@@ -90,8 +90,8 @@ module _ (ops : Ops) (begun : ℕ) (slots : List Slot) (jobs : List ℕ) (a : Ar
     flight_after : (n : ℕ) → flight_at after n ≡ flight_in begun (slice_set (all_polled ops slots) c.user_data told) n
     flight_after n = either_way c.user_data n _
         (λ e. subst (λ m. flight_at after m ≡ flight_in begun (slice_set (all_polled ops slots) c.user_data told) m) e
-        (gone_here ∙ sym (no_flight (nat_lt c.user_data begun) (slice_get (slice_set (all_polled ops slots) c.user_data told) c.user_data) (ap flight_of (set_here (all_polled ops slots) c.user_data (Open spot.0) told spot.2)))))
-        (λ e. gone_else n e ∙ a.in_flight n ∙ ap (λ s. cond (nat_lt n begun) (flight_of s) None) (sym (set_else (all_polled ops slots) c.user_data n told e)))
+        (gone_here ∙ sym (no_flight (nat_lt c.user_data begun) (slice_get (slice_set (all_polled ops slots) c.user_data told) c.user_data) (ap slot_flight (set_here (all_polled ops slots) c.user_data (Open spot.0) told spot.2)))))
+        (λ e. gone_else n e ∙ a.in_flight n ∙ ap (λ s. cond (nat_lt n begun) (slot_flight s) None) (sym (set_else (all_polled ops slots) c.user_data n told e)))
 
     -- the buffer came back that was lent
     lent_back : WasLent slots c.user_data (outcome c)
@@ -141,7 +141,7 @@ Lands begun slots jobs landed cs ops' (Err (Stranger u)) = stranger_among begun 
 Lands begun slots jobs landed cs ops' (Err (Fault errno)) = Unit {0}
 Lands begun slots jobs landed cs ops' (Err NoMemory) = Unit {0}
 
-lands_more : (begun : ℕ) (slots : List Slot) (jobs : List ℕ) (landed : List Slot) (c : Completion) (cs : List Completion) (ops' : Ops) (end : Result (Unit {0}) EngineFault) → is_stranger begun landed c ≡ false → Lands begun slots jobs (land_one landed c) cs ops' end → Lands begun slots jobs landed (c ∷ cs) ops' end
+lands_more : (begun : ℕ) (slots : List Slot) (jobs : List ℕ) (landed : List Slot) (c : Completion) (cs : List Completion) (ops' : Ops) (end : Result (Unit {0}) EngineFault) → is_unexpected begun landed c ≡ false → Lands begun slots jobs (land_one landed c) cs ops' end → Lands begun slots jobs landed (c ∷ cs) ops' end
 lands_more begun slots jobs landed c cs ops' (Ok _) e l = (ap (λ b. cond b (Some c.user_data) (stranger_among begun (land_one landed c) cs)) e ∙ l.0, l.1, l.2)
 lands_more begun slots jobs landed c cs ops' (Err (Stranger u)) e l = ap (λ b. cond b (Some c.user_data) (stranger_among begun (land_one landed c) cs)) e ∙ l
 lands_more begun slots jobs landed c cs ops' (Err (Fault errno)) e l = tt

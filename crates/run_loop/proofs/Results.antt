@@ -30,7 +30,8 @@ use Rattle.run_loop.specs.declared.slot.Reply.{Reply}
 use Rattle.run_loop.specs.declared.slot.Reply.TheVariants.{Plain, Buffer, Success}
 use Rattle.run_loop.specs.Told.{Ending, first_final, reply_for, lends, heard, outcome_from}
 use Rattle.run_loop.specs.Slots.{count_open, final_of, told_slot, slots_from}
-use Rattle.run_loop.specs.Memory.{outcome_told, outcomes_told}
+use Rattle.uring_model.specs.Rows.{outcome_told}
+use Rattle.run_loop.specs.Memory.{replayed_outcomes}
 use Rattle.run_loop.specs.Runs.{outcomes_from}
 use Rattle.run_loop.proofs.FlightLemmas.{same_number}
 use Rattle.run_loop.proofs.Posts.{final_not, final_last, same_final}
@@ -237,12 +238,12 @@ final_told replies n (c ∷ cs) e h q =
     (λ b. same_number c.user_data n (and_both (is_final c.flags) (nat_eq c.user_data n) b).1) h.0 (λ r. final_told replies n cs e h.1 r) q
 
 told_one : (job : Job) (o : Option Ending) (rest : List model.Job) (t : List (Option Result)) → ((e : Ending) → o ≡ Some e → outcome_from (reply_for job.kind) e ≡ outcome_told (model_job job) (told e))
-    → outcomes_told (model_job job ∷ rest) (option_map told o ∷ t) ≡ option_map (outcome_from (reply_for job.kind)) o ∷ outcomes_told rest t
+    → replayed_outcomes (model_job job ∷ rest) (option_map told o ∷ t) ≡ option_map (outcome_from (reply_for job.kind)) o ∷ replayed_outcomes rest t
 told_one job None rest t f = refl
-told_one job (Some e) rest t f = λ i. Some (sym (f e refl) i) ∷ outcomes_told rest t
+told_one job (Some e) rest t f = λ i. Some (sym (f e refl) i) ∷ replayed_outcomes rest t
 
 pub told_outcomes : (replies : ℕ → Reply) (n : ℕ) (jobs : List Job) (ms : List Move) → Replies replies n jobs → AllByRecursion (λ c. answers replies c ≡ true) (posted ms)
-    → outcomes_told (model_jobs jobs) (results_from n (offers_from n jobs) (posted ms)) ≡ outcomes_from n jobs (log_of ms)
+    → replayed_outcomes (model_jobs jobs) (results_from n (offers_from n jobs) (posted ms)) ≡ outcomes_from n jobs (log_of ms)
 told_outcomes replies n [] ms f h = refl
 told_outcomes replies n (job ∷ []) ms f h =
     told_one job (final_of n (posted ms)) [] [] (λ e q. same_outcome job (replies n) e (replies_here replies n _ (f 0)) (final_told replies n (posted ms) e h q))

@@ -78,7 +78,7 @@ entered_then kept a ts ms (Some l) m = record {
 -- how a turn ended: all that was reaped was taken, or the partner's error was handed on
 abbrev pub Ended : Bool → Ops → List Completion → Ops → Result TurnReport EngineFault → Type 0
 Ended true ops cs ops' result = Pumps ops cs ops' (ending result) × IfOk result (λ report. report.finals ≡ finals_in cs)
-Ended false ops cs ops' result = (e : SubmitError) × (result ≡ Err (turns.fault_of e))
+Ended false ops cs ops' result = (e : SubmitError) × (result ≡ Err (turns.engine_fault_of e))
 
 pub record Did (kept : Completion → Completion) (a : Lists) (ts : List Taken) (ms : List Move) (ops ops' : Ops) (result : Result TurnReport EngineFault) (entered : Bool) (last : Option Lists) (room waiting : ℕ) : Type 0 where
   pub cs : List Completion
@@ -204,7 +204,7 @@ any_by_count cs n e =
 
 ended_ok : (entered : Bool) (ops : Ops) (cs : List Completion) (ops' : Ops) (report : TurnReport) → Ended entered ops cs ops' (Ok report) → (entered ≡ true) × Pumps ops cs ops' (Ok tt) × (report.finals ≡ finals_in cs)
 ended_ok true ops cs ops' report h = (refl, h.0, h.1)
-ended_ok false ops cs ops' report h = let e : Ok report ≡ Err (turns.fault_of h.0) = h.1 in cc
+ended_ok false ops cs ops' report h = let e : Ok report ≡ Err (turns.engine_fault_of h.0) = h.1 in cc
 
 -- all that was posted was taken, nothing of it strange; and the user sees how much fits
 pub record Landed (begun : ℕ) (slots : List Slot) (jobs : List ℕ) (posts : List Completion) (ops' : Ops) (report : TurnReport) (entered : Bool) (after : Lists) (room : ℕ) : Type 0 where

@@ -12,7 +12,7 @@ use Rattle.uring_model.specs.Moves.{Move, Turned, Took, Posted, took, posted, lo
 use Rattle.uring_model.specs.Machine.{Files}
 use Rattle.uring_model.specs.Schedule as schedule
 use Rattle.uring_model.specs.Schedule.{turn, take_all}
-use Rattle.uring_model.specs.Refines.{IsIdle}
+use Rattle.uring_model.specs.Refines.{IsPlainAndIdle}
 use Rattle.uring_model.specs.Progress.{turns}
 use Rattle.std.specs.List.{AllByRecursion}
 use Rattle.uring_model.specs.Asks.{IsJobEntry}
@@ -53,7 +53,7 @@ pub record Running {W : Type 0} (mach : schedule.Machine W) (view : W → Files)
   pub started_is : started ≡ length (took ms) + length l.published
   pub holds : (0 < l.capacity) × (0 < l.completion_capacity)
   pub six : AllByRecursion IsJobEntry (all_taken offers)
-  pub prompt : (a : schedule.State W) → state first ≡ Some a → IsIdle Plain a → (idled ≡ 0) × (count_open slots + length (posted ms) ≡ length offers) × (turns ms ≤ length (posted ms))
+  pub prompt : (a : schedule.State W) → state first ≡ Some a → IsPlainAndIdle Plain a → (idled ≡ 0) × (count_open slots + length (posted ms) ≡ length offers) × (turns ms ≤ length (posted ms))
 
 -- turns that begin with the ring full or all offers pushed
 
@@ -317,7 +317,7 @@ on_true true T e h = h
 on_true false T e h = cc
 
 -- an idle partner whose files are told posts in each round, and each of its posts ends a job
-next_prompt : {W : Type 0} (mach : schedule.Machine W) (view : W → Files) (Plain : W → Type 0) {P R : Type 0} (log : P → Option (List LogEvent)) (state : P → Option (schedule.State W)) (lists : R → Option Lists) (kept : Completion → Completion) (first now new : P) (from to : R) (room : ℕ) (todo todo' : List Taken) (started started' : ℕ) (slots slots' : List Slot) (offers : List Offer) (capacity idle idled : ℕ) (fin : Bool) (x : Next mach view Plain log state lists kept first now new from to room todo todo' started started' slots slots' offers capacity idle idled (Ok fin)) (idled' : ℕ) → idled' ≡ cond fin 0 (idled + 1) → (a : schedule.State W) → state first ≡ Some a → IsIdle Plain a
+next_prompt : {W : Type 0} (mach : schedule.Machine W) (view : W → Files) (Plain : W → Type 0) {P R : Type 0} (log : P → Option (List LogEvent)) (state : P → Option (schedule.State W)) (lists : R → Option Lists) (kept : Completion → Completion) (first now new : P) (from to : R) (room : ℕ) (todo todo' : List Taken) (started started' : ℕ) (slots slots' : List Slot) (offers : List Offer) (capacity idle idled : ℕ) (fin : Bool) (x : Next mach view Plain log state lists kept first now new from to room todo todo' started started' slots slots' offers capacity idle idled (Ok fin)) (idled' : ℕ) → idled' ≡ cond fin 0 (idled + 1) → (a : schedule.State W) → state first ≡ Some a → IsPlainAndIdle Plain a
     → (idled' ≡ 0) × (count_open slots' + length (posted (x.run.ms ++ x.round.ms)) ≡ length offers) × (turns (x.run.ms ++ x.round.ms) ≤ length (posted (x.run.ms ++ x.round.ms)))
 next_prompt mach view Plain log state lists kept first now new from to room todo todo' started started' slots slots' offers capacity idle idled fin x idled' e a told is_idle =
     let q = x.run.prompt a told is_idle in

@@ -19,7 +19,7 @@ use Rattle.uring_model.specs.Partner.{job_of, idle}
 use Rattle.uring_model.specs.Partner as filed
 use Rattle.uring_model.specs.Machine.{Files}
 use Rattle.uring_model.specs.Schedule as schedule
-use Rattle.uring_model.specs.Refines.{seen, IsIdle}
+use Rattle.uring_model.specs.Refines.{seen, IsPlainAndIdle}
 use Rattle.uring_model.specs.Asks.{IsJobEntry}
 use Rattle.uring_model.specs.Progress.{turns}
 use Rattle.uring_model.specs.Explained.{Numbered, record_all, AllFresh, Explained}
@@ -32,7 +32,7 @@ use Rattle.run_loop.specs.Driven.{Driven, IsGivenUp}
 use Rattle.run_loop.specs.declared.slot.Reply.{Reply}
 use Rattle.run_loop.specs.Entries.{offers_from, all_taken, reply_in, lends_in, lends_at, AllValid, AllInRange}
 use Rattle.run_loop.specs.Laws.{ModelLaws}
-use Rattle.run_loop.specs.Memory.{Explains, outcomes_told}
+use Rattle.run_loop.specs.Memory.{Explains, replayed_outcomes}
 use Rattle.run_loop.specs.Rounds.{is_stall, is_stranger_fault}
 use Rattle.run_loop.specs.Runs.{Ran, RunSays, outcomes_from, IsAnswered, IsFaulted}
 use Rattle.run_loop.specs.Slots.{count_open, slots_from}
@@ -84,7 +84,7 @@ front_of : {A : Type 0} (P : A → Type 0) (xs ys : List A) → AllByRecursion P
 front_of P [] ys h = tt
 front_of P (x ∷ xs) ys h = (h.0, front_of P xs ys h.1)
 
-pub from_idle : {W : Type 0} (mach : schedule.Machine W) (view : W → Files) (Plain : W → Type 0) {P : Type 0} (laws : ModelLaws mach view Plain) (log : P → Option (List LogEvent)) (state : P → Option (schedule.State W)) (old new : P) (jobs : List Job) (capacity bound : ℕ) (d : Driven mach log state old new (offers_from 0 jobs) capacity bound) → AllValid jobs → AllInRange jobs → (a : schedule.State W) → state old ≡ Some a → IsIdle Plain a
+pub from_idle : {W : Type 0} (mach : schedule.Machine W) (view : W → Files) (Plain : W → Type 0) {P : Type 0} (laws : ModelLaws mach view Plain) (log : P → Option (List LogEvent)) (state : P → Option (schedule.State W)) (old new : P) (jobs : List Job) (capacity bound : ℕ) (d : Driven mach log state old new (offers_from 0 jobs) capacity bound) → AllValid jobs → AllInRange jobs → (a : schedule.State W) → state old ≡ Some a → IsPlainAndIdle Plain a
     → (b : schedule.State W) × (state new ≡ Some b) × FromIdle jobs (viewed view a) (viewed view b) d.moves × Plain b.world
 from_idle mach view Plain laws log state old new jobs capacity bound d valid range a told rests =
     let served = served_some mach a d.moves (state new) (subst (λ o. schedule.IsServed mach o d.moves (state new)) told d.states) in
@@ -138,7 +138,7 @@ fault_explains view Plain jobs a b ms e f honest prompt = record {
 }
 
 pub says_fault : {W : Type 0} (mach : schedule.Machine W) (view : W → Files) (Plain : W → Type 0) {P : Type 0} (laws : ModelLaws mach view Plain) (log : P → Option (List LogEvent)) (state : P → Option (schedule.State W)) (old new : P) (jobs : List Job) (capacity bound : ℕ) (e : RunFault) → AllValid jobs → AllInRange jobs
-    → (d : Driven mach log state old new (offers_from 0 jobs) capacity bound) → IsGivenUp (offers_from 0 jobs) bound (log_of d.moves) e → IfSome (state old) (λ a. IsIdle Plain a → is_stall e ≡ false)
+    → (d : Driven mach log state old new (offers_from 0 jobs) capacity bound) → IsGivenUp (offers_from 0 jobs) bound (log_of d.moves) e → IfSome (state old) (λ a. IsPlainAndIdle Plain a → is_stall e ≡ false)
     → RunSays mach view Plain log state old new jobs capacity bound (Err e)
 says_fault mach view Plain laws log state old new jobs capacity bound e valid range d given stall = record {
   ran = ran_of mach view Plain log state old new jobs capacity bound d;
@@ -146,7 +146,7 @@ says_fault mach view Plain laws log state old new jobs capacity bound e valid ra
   fault = faulted_of jobs bound (log_of d.moves) e given;
   memory = λ a told rests.
       let f = from_idle mach view Plain laws log state old new jobs capacity bound d valid range a told rests in
-      (f.0, f.1, fault_explains view Plain jobs a f.0 d.moves e f.2 (stranger_not e jobs bound (log_of d.moves) given f.2.honest) (some_told (state old) a (λ a. IsIdle Plain a → is_stall e ≡ false) stall told rests));
+      (f.0, f.1, fault_explains view Plain jobs a f.0 d.moves e f.2 (stranger_not e jobs bound (log_of d.moves) given f.2.honest) (some_told (state old) a (λ a. IsPlainAndIdle Plain a → is_stall e ≡ false) stall told rests));
 }
 
 -- a run that ends well
@@ -178,7 +178,7 @@ whole_explains mach view Plain laws jobs a b ms report f plain none answers few 
       files = f.explained.files_at_end;
       report = record {
         whole = whole;
-        outcomes = answers ∙ sym (told_outcomes (replies_at jobs) 0 jobs ms (replies_first jobs) f.told) ∙ ap (outcomes_told (model_jobs jobs)) (sym results);
+        outcomes = answers ∙ sym (told_outcomes (replies_at jobs) 0 jobs ms (replies_first jobs) f.told) ∙ ap (replayed_outcomes (model_jobs jobs)) (sym results);
         idle = let r = f.restful whole in record { pending = r.pending; tail = r.tail; plain = plain };
         few = subst (λ n. turns ms ≤ n) (sym (length-map jobs model_job)) few;
       };
@@ -195,7 +195,7 @@ pub says_report : {W : Type 0} (mach : schedule.Machine W) (view : W → Files) 
     → (d : Driven mach log state old new (offers_from 0 jobs) capacity bound) → first_strange (lends_in (offers_from 0 jobs)) nothing_seen (log_of d.moves) ≡ None
     → count_open (slots_from 0 (offers_from 0 jobs) (posted d.moves)) ≡ 0 → map (λ o. Done o) report.outcomes.items ≡ slots_from 0 (offers_from 0 jobs) (posted d.moves)
     → IfSome (log old) (λ l. start ≡ length l) → IfSome (log new) (λ l. report.journal.items ≡ map event_of (drop start l))
-    → ((a : schedule.State W) → state old ≡ Some a → IsIdle Plain a → turns d.moves ≤ length (offers_from 0 jobs))
+    → ((a : schedule.State W) → state old ≡ Some a → IsPlainAndIdle Plain a → turns d.moves ≤ length (offers_from 0 jobs))
     → RunSays mach view Plain log state old new jobs capacity bound (Ok report)
 says_report mach view Plain laws log state old new jobs capacity bound report start valid range d honest none slots at journal few =
     let answered = answered_by jobs d.moves report.outcomes.items honest slots in
@@ -208,12 +208,12 @@ says_report mach view Plain laws log state old new jobs capacity bound report st
           (f.0, f.1, whole_explains mach view Plain laws jobs a f.0 d.moves report f.2 f.3 none answered.outcomes (subst (λ n. turns d.moves ≤ n) (offers_count 0 jobs) (few a told rests)));
     }
 
-pub not_stalled : {W : Type 0} (Plain : W → Type 0) (o : Option (schedule.State W)) → IfSome o (λ a. IsIdle Plain a → is_stall faults.NoMemory ≡ false)
+pub not_stalled : {W : Type 0} (Plain : W → Type 0) (o : Option (schedule.State W)) → IfSome o (λ a. IsPlainAndIdle Plain a → is_stall faults.NoMemory ≡ false)
 not_stalled Plain None = tt
 not_stalled Plain (Some a) = λ h. refl
 
 told_either : {W : Type 0} (mach : schedule.Machine W) (view : W → Files) (Plain : W → Type 0) {P : Type 0} (laws : ModelLaws mach view Plain) (log : P → Option (List LogEvent)) (state : P → Option (schedule.State W)) (old new : P) (jobs : List Job) (capacity bound : ℕ) (start : ℕ) (slots : List Slot) (r : Result Report RunFault) → AllValid jobs → AllInRange jobs
-    → (d : Driven mach log state old new (offers_from 0 jobs) capacity bound) → count_open slots ≡ 0 → slots ≡ slots_from 0 (offers_from 0 jobs) (posted d.moves) → first_strange (lends_in (offers_from 0 jobs)) nothing_seen (log_of d.moves) ≡ None → ((a : schedule.State W) → state old ≡ Some a → IsIdle Plain a → turns d.moves ≤ length (offers_from 0 jobs))
+    → (d : Driven mach log state old new (offers_from 0 jobs) capacity bound) → count_open slots ≡ 0 → slots ≡ slots_from 0 (offers_from 0 jobs) (posted d.moves) → first_strange (lends_in (offers_from 0 jobs)) nothing_seen (log_of d.moves) ≡ None → ((a : schedule.State W) → state old ≡ Some a → IsPlainAndIdle Plain a → turns d.moves ≤ length (offers_from 0 jobs))
     → IfOk r (λ report. map (λ o. Done o) report.outcomes.items ≡ slots) → IfOk r (λ report. IfSome (log new) (λ l. report.journal.items ≡ map event_of (drop start l))) → IfErr r (λ e. e ≡ faults.NoMemory) → IfSome (log old) (λ l. start ≡ length l)
     → RunSays mach view Plain log state old new jobs capacity bound r
 told_either mach view Plain laws log state old new jobs capacity bound start slots (Ok report) valid range d none told honest few outcomes journal err at =
@@ -223,13 +223,13 @@ told_either mach view Plain laws log state old new jobs capacity bound start slo
 
 -- what a run tells by its report, or by want of memory for it
 pub says_either : {W : Type 0} (mach : schedule.Machine W) (view : W → Files) (Plain : W → Type 0) {P : Type 0} (laws : ModelLaws mach view Plain) (log : P → Option (List LogEvent)) (state : P → Option (schedule.State W)) (old new : P) (jobs : List Job) (capacity bound : ℕ) (start : ℕ) (slots : List Slot) (offers : List Offer) (r : Result Report RunFault) → AllValid jobs → AllInRange jobs → offers ≡ offers_from 0 jobs
-    → ((d : Driven mach log state old new offers capacity bound) × ((count_open slots ≡ 0) × (slots ≡ slots_from 0 offers (posted d.moves)) × (first_strange (lends_in offers) nothing_seen (log_of d.moves) ≡ None) × ((a : schedule.State W) → state old ≡ Some a → IsIdle Plain a → turns d.moves ≤ length offers)))
+    → ((d : Driven mach log state old new offers capacity bound) × ((count_open slots ≡ 0) × (slots ≡ slots_from 0 offers (posted d.moves)) × (first_strange (lends_in offers) nothing_seen (log_of d.moves) ≡ None) × ((a : schedule.State W) → state old ≡ Some a → IsPlainAndIdle Plain a → turns d.moves ≤ length offers)))
     → IfOk r (λ report. map (λ o. Done o) report.outcomes.items ≡ slots) → IfOk r (λ report. IfSome (log new) (λ l. report.journal.items ≡ map event_of (drop start l))) → IfErr r (λ e. e ≡ faults.NoMemory)
     → IfSome (log old) (λ l. start ≡ length l)
     → RunSays mach view Plain log state old new jobs capacity bound r
 says_either {W = W} mach view Plain laws log state old new jobs capacity bound start slots offers r valid range same run outcomes journal err at =
-    let whole : (d : Driven mach log state old new (offers_from 0 jobs) capacity bound) × ((count_open slots ≡ 0) × (slots ≡ slots_from 0 (offers_from 0 jobs) (posted d.moves)) × (first_strange (lends_in (offers_from 0 jobs)) nothing_seen (log_of d.moves) ≡ None) × ((a : schedule.State W) → state old ≡ Some a → IsIdle Plain a → turns d.moves ≤ length (offers_from 0 jobs))) =
-    subst (λ o. (d : Driven mach log state old new o capacity bound) × ((count_open slots ≡ 0) × (slots ≡ slots_from 0 o (posted d.moves)) × (first_strange (lends_in o) nothing_seen (log_of d.moves) ≡ None) × ((a : schedule.State W) → state old ≡ Some a → IsIdle Plain a → turns d.moves ≤ length o))) same run in
+    let whole : (d : Driven mach log state old new (offers_from 0 jobs) capacity bound) × ((count_open slots ≡ 0) × (slots ≡ slots_from 0 (offers_from 0 jobs) (posted d.moves)) × (first_strange (lends_in (offers_from 0 jobs)) nothing_seen (log_of d.moves) ≡ None) × ((a : schedule.State W) → state old ≡ Some a → IsPlainAndIdle Plain a → turns d.moves ≤ length (offers_from 0 jobs))) =
+    subst (λ o. (d : Driven mach log state old new o capacity bound) × ((count_open slots ≡ 0) × (slots ≡ slots_from 0 o (posted d.moves)) × (first_strange (lends_in o) nothing_seen (log_of d.moves) ≡ None) × ((a : schedule.State W) → state old ≡ Some a → IsPlainAndIdle Plain a → turns d.moves ≤ length o))) same run in
     told_either mach view Plain laws log state old new jobs capacity bound start slots r valid range whole.0 whole.1.0 whole.1.1 whole.1.2 whole.1.3 outcomes journal err at
 
 -- the log's length is where its gain begins

@@ -6,7 +6,7 @@ use Rattle.uring_model.specs.declared.jobs.Outcome.{Outcome}
 use Rattle.run_loop.specs.declared.slot.Reply.{Reply}
 use Rattle.run_loop.specs.declared.slot.Slot.{Slot}
 use Rattle.run_loop.specs.declared.slot.Slot.TheVariants.{Open, Done}
-use Rattle.run_loop.specs.Slots.{count_open, is_strange_at, is_stranger, open_slots}
+use Rattle.run_loop.specs.Slots.{count_open, is_strange_at, is_unexpected, open_slots}
 
 pub count_of_open_slots : (jobs : List Job) → count_open (open_slots jobs) ≡ length jobs
 count_of_open_slots [] = refl
@@ -30,5 +30,5 @@ open_at (Some (Done o)) c e = cc
 open_at (Some (Open reply)) c e = (reply, refl)
 
 -- a completion that is no stranger finds its job started and open
-pub due_open : (started : ℕ) (slots : List Slot) (c : Completion) → is_stranger started slots c ≡ false → (reply : Reply) × (slice_get slots c.user_data ≡ Some (Open reply))
+pub due_open : (started : ℕ) (slots : List Slot) (c : Completion) → is_unexpected started slots c ≡ false → (reply : Reply) × (slice_get slots c.user_data ≡ Some (Open reply))
 due_open started slots c e = open_at (slice_get slots c.user_data) c (or_parts (not (nat_lt c.user_data started)) (is_strange_at (slice_get slots c.user_data) c) e).1

@@ -22,8 +22,8 @@ use Rattle.run_loop.specs.declared.slot.Slot.TheVariants.{Open, Done}
 use Rattle.uring_base.specs.Completions.{is_final}
 use Rattle.run_loop.specs.Told.{Ending, reply_for, lends, outcome_from}
 use Rattle.run_loop.specs.Entries.{job_words, with_drain, with_link, job_entry, job_loan, offer_of, unlinked_if, offers_from}
-use Rattle.run_loop.specs.Slots.{slots_from, is_strange_at, is_stranger, land_in, land_one, land_all, stranger_among}
-use Rattle.run_loop.specs.Flights.{WasLent, AreReplied, jobs_of, flight_of, flight_in, all_polled, times_in, AreOperated, NoneResolved, IsAhead, AreAhead, IsSettled}
+use Rattle.run_loop.specs.Slots.{slots_from, is_strange_at, is_unexpected, land_in, land_one, land_all, stranger_among}
+use Rattle.run_loop.specs.Flights.{WasLent, AreReplied, jobs_in_flight, slot_flight, flight_in, all_polled, times_in, AreOperated, NoneResolved, IsAhead, AreAhead, IsSettled}
 use Rattle.run_loop.proofs.Posts.{passes}
 use Rattle.run_loop.proofs.FlightLemmas.{either_way, at_insert, none_polled, times-append, itself, set_else}
 
@@ -64,7 +64,7 @@ not_below n = grind (arith, nat_tests)
 
 pub unknown : (ops : Ops) (begun : ℕ) (slots : List Slot) (jobs : List ℕ) → AreOperated ops begun slots jobs → NoneResolved ops → knows ops begun ≡ false
 unknown ops begun slots jobs a h =
-    let none : flight_at ops begun ≡ None = a.in_flight begun ∙ ap (λ b. cond b (flight_of (slice_get (all_polled ops slots) begun)) None) (not_below begun) in
+    let none : flight_at ops begun ≡ None = a.in_flight begun ∙ ap (λ b. cond b (slot_flight (slice_get (all_polled ops slots) begun)) None) (not_below begun) in
     λ i. is_some (none i) || is_some (h begun i)
 
 next_below : (n m : ℕ) → nat_eq m n ≡ false → nat_lt n (m + 1) ≡ nat_lt n m
@@ -91,8 +91,8 @@ module _ (ops : Ops) (begun : ℕ) (slots : List Slot) (jobs : List ℕ) (reply 
 
   in_slots : (n : ℕ) → flight_at more n ≡ flight_in (begun + 1) slots n
   in_slots n = either_way begun n _
-      (λ e. subst (λ m. flight_at more m ≡ flight_in (begun + 1) slots m) e (flight_here ∙ (λ i. cond (sym (one_below begun) i) (flight_of (sym o i)) None)))
-      (λ e. flight_else n e ∙ a.in_flight n ∙ (λ i. cond (sym (next_below n begun e) i) (flight_of (slice_get (none_polled ops slots h i) n)) None))
+      (λ e. subst (λ m. flight_at more m ≡ flight_in (begun + 1) slots m) e (flight_here ∙ (λ i. cond (sym (one_below begun) i) (slot_flight (sym o i)) None)))
+      (λ e. flight_else n e ∙ a.in_flight n ∙ (λ i. cond (sym (next_below n begun e) i) (slot_flight (slice_get (none_polled ops slots h i) n)) None))
 
   listed : (n : ℕ) → times_in n (jobs ++ begun ∷ []) ≡ cond (knows more n) 1 0
   listed n = either_way begun n _
@@ -159,7 +159,7 @@ started_first m n b e = by_test (nat_lt m n) b e (λ h. grind (arith, nat_tests,
 pub ahead_landed : (n : ℕ) (slots : List Slot) (todo : List Offer) (cs : List Completion) → stranger_among n slots cs ≡ None → AreAhead n slots todo → AreAhead n (land_all slots cs) todo
 ahead_landed n slots todo [] e a = a
 ahead_landed n slots todo (c ∷ cs) e a =
-    let p = passes (is_stranger n slots c) c.user_data (stranger_among n (land_one slots c) cs) e in
+    let p = passes (is_unexpected n slots c) c.user_data (stranger_among n (land_one slots c) cs) e in
     let lt = started_first c.user_data n (is_strange_at (slice_get slots c.user_data) c) p.0 in
     ahead_landed n (land_one slots c) todo cs p.1 (ahead_if (is_final c.flags) n c.user_data slots (record { result = c.result; loan = c.loan }) todo lt a)
 
@@ -176,7 +176,7 @@ unknown_first n =
 
 pub none_operated : (slots : List Slot) → AreOperated no_ops 0 slots []
 none_operated slots = record {
-  in_flight = λ n. get-empty nat_cmp n ∙ ap (λ b. cond b (flight_of (slice_get (all_polled no_ops slots) n)) None) (sym (none_below n));
+  in_flight = λ n. get-empty nat_cmp n ∙ ap (λ b. cond b (slot_flight (slice_get (all_polled no_ops slots) n)) None) (sym (none_below n));
   resolved = λ n. subst (λ o. IfSome o (WasLent slots n)) (sym (get-empty nat_cmp n)) tt;
   listed = λ n. ap (λ b. cond b 1 0) (sym (unknown_first n));
 }
@@ -215,7 +215,7 @@ pub settled_first : (ops : Ops) (begun : ℕ) (slots : List Slot) (flights : Lis
 settled_first ops begun slots flights todo jobs e f g h k =
     let here = g ∙ ap (λ o. slots_from 0 o []) k in
     record {
-      operated = subst (λ x. AreOperated x begun slots (jobs_of flights)) (sym e) (subst (λ x. AreOperated no_ops x slots (jobs_of flights)) (sym f) (subst (λ x. AreOperated no_ops 0 slots (jobs_of x)) (sym h) (none_operated slots)));
+      operated = subst (λ x. AreOperated x begun slots (jobs_in_flight flights)) (sym e) (subst (λ x. AreOperated no_ops x slots (jobs_in_flight flights)) (sym f) (subst (λ x. AreOperated no_ops 0 slots (jobs_in_flight x)) (sym h) (none_operated slots)));
       replied = subst (AreReplied slots) (sym h) (none_replied slots);
       none = subst NoneResolved (sym e) (λ n. get-empty nat_cmp n);
       ahead = subst (λ x. AreAhead x slots todo) (sym f) (subst (λ x. AreAhead 0 x todo) (sym here) (subst (AreAhead 0 (slots_from 0 (offers_from 0 jobs) [])) (sym k) (ahead_first jobs)));

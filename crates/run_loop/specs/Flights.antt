@@ -22,13 +22,13 @@ pub record WasLent (slots : List Slot) (n : ℕ) (done : OpDone) : Type 0 where
   pub lent : lends reply ≡ is_some done.buf
 
 -- a job without an outcome has an operation in flight, that lends a buffer where the job does
-abbrev pub flight_of : Option Slot → Option Flight
-flight_of None = None
-flight_of (Some (Open reply)) = Some (record { lent = lends reply; forgotten = false })
-flight_of (Some (Done outcome)) = None
+abbrev pub slot_flight : Option Slot → Option Flight
+slot_flight None = None
+slot_flight (Some (Open reply)) = Some (record { lent = lends reply; forgotten = false })
+slot_flight (Some (Done outcome)) = None
 
 abbrev pub flight_in : ℕ → List Slot → ℕ → Option Flight
-flight_in started slots n = if nat_lt n started then flight_of (slice_get slots n) else None
+flight_in started slots n = if nat_lt n started then slot_flight (slice_get slots n) else None
 
 -- what a resolved operation gives its job
 abbrev pub outcome_polled : Reply → OpDone → Outcome
@@ -60,8 +60,8 @@ left_by (Ready done) job = []
 left_by (Pending n) job = job ∷ []
 left_by (Lost n) job = []
 
-abbrev pub jobs_of : List InFlight → List ℕ
-jobs_of flights = map (λ f. f.job) flights
+abbrev pub jobs_in_flight : List InFlight → List ℕ
+jobs_in_flight flights = map (λ f. f.job) flights
 
 -- how often a job stands in a list
 abbrev pub times_in : ℕ → List ℕ → ℕ
@@ -97,7 +97,7 @@ pub record AreReplied (slots : List Slot) (flights : List InFlight) : Type 0 whe
 -- Between rounds nothing is resolved, the jobs in flight are those of the open slots of the started jobs, and the others
 -- are ahead.
 pub record IsSettled (ops : Ops) (started : ℕ) (slots : List Slot) (flights : List InFlight) (todo : List Offer) : Type 0 where
-  pub operated : AreOperated ops started slots (jobs_of flights)
+  pub operated : AreOperated ops started slots (jobs_in_flight flights)
   pub replied : AreReplied slots flights
   pub none : NoneResolved ops
   pub ahead : AreAhead started slots todo

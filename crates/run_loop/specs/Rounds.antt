@@ -29,9 +29,9 @@ pub record IsCalm (l : Lists) (room : ℕ) : Type 0 where
 
 -- the fault of a run, by a partner's error, and by an engine's
 
-abbrev pub fault_of : PartnerError → RunFault
-fault_of (errors.Fault errno) = PartnerFault
-fault_of errors.NoMemory = NoMemory
+abbrev pub run_fault_of : PartnerError → RunFault
+run_fault_of (errors.Fault errno) = PartnerFault
+run_fault_of errors.NoMemory = NoMemory
 
 abbrev pub engine_fault : EngineFault → RunFault
 engine_fault (faults.Stranger u) = Stranger u

@@ -14,7 +14,7 @@ use Rattle.uring_base.specs.Sizes.{is_valid_size}
 use Rattle.uring_model.specs.Jobs.{model_jobs}
 use Rattle.uring_model.specs.Machine.{Files}
 use Rattle.uring_model.specs.Schedule as schedule
-use Rattle.uring_model.specs.Refines.{IsIdle}
+use Rattle.uring_model.specs.Refines.{IsPlainAndIdle}
 use Rattle.uring_model.specs.Progress.{turns}
 use Rattle.uring_model.specs.Honest.{TakesWithinTurns}
 use Rattle.uring_model.specs.Strange.{nothing_seen, first_strange}
@@ -72,7 +72,7 @@ pub record RunSays {W : Type 0} (mach : schedule.Machine W) (view : W → Files)
   pub report : IfOk result (IsReported log old jobs ran.moves)
   pub fault : IfErr result (IsFaulted jobs idle (log_of ran.moves))
   -- over a partner that tells its files and began idle
-  pub memory : (a : schedule.State W) → state old ≡ Some a → IsIdle Plain a → (b : schedule.State W) × (state new ≡ Some b) × Explains view Plain (model_jobs jobs) a ran.moves b result
+  pub memory : (a : schedule.State W) → state old ≡ Some a → IsPlainAndIdle Plain a → (b : schedule.State W) × (state new ≡ Some b) × Explains view Plain (model_jobs jobs) a ran.moves b result
 
 -- sizes and jobs that a run takes
 pub record IsValidRun (sq cq : ℕ) (jobs : List Job) : Type 0 where

@@ -21,16 +21,16 @@ is_strange_at (Some (Done outcome)) c = true
 is_strange_at (Some (Open reply)) c = has_other_number c.user_data c.loan || has_wrong_loan (lends reply) (is_final c.flags) c.loan
 
 -- a completion that no started and open job is due
-abbrev pub is_stranger : ℕ → List Slot → Completion → Bool
-is_stranger started slots c = not (nat_lt c.user_data started) || is_strange_at (slice_get slots c.user_data) c
+abbrev pub is_unexpected : ℕ → List Slot → Completion → Bool
+is_unexpected started slots c = not (nat_lt c.user_data started) || is_strange_at (slice_get slots c.user_data) c
 
 -- the slots before the run
 
-abbrev pub opened : Job → Slot
-opened job = Open (reply_for job.kind)
+abbrev pub open_slot : Job → Slot
+open_slot job = Open (reply_for job.kind)
 
 abbrev pub open_slots : List Job → List Slot
-open_slots jobs = map opened jobs
+open_slots jobs = map open_slot jobs
 
 -- a final completion gives its job an outcome
 
@@ -49,7 +49,7 @@ land_all slots (c ∷ cs) = land_all (land_one slots c) cs
 -- the first of these completions that is a stranger, by its number
 abbrev pub stranger_among : ℕ → List Slot → List Completion → Option ℕ
 stranger_among started slots [] = None
-stranger_among started slots (c ∷ cs) = if is_stranger started slots c then Some c.user_data else stranger_among started (land_one slots c) cs
+stranger_among started slots (c ∷ cs) = if is_unexpected started slots c then Some c.user_data else stranger_among started (land_one slots c) cs
 
 abbrev pub any_final : List Completion → Bool
 any_final [] = false

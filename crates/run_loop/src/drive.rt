@@ -4,7 +4,7 @@ ghost use Rattle.std.specs.Prelude.{◌≡◌, ◌+◌, ◌<◌, ◌≤◌, ◌^
 ghost use Rattle.uring_base.specs.Causes.{HasCause};
 ghost use Rattle.uring_model.specs.Moves.{posted, log_of};
 ghost use Rattle.uring_model.specs.Schedule.{State};
-ghost use Rattle.uring_model.specs.Refines.{IsIdle};
+ghost use Rattle.uring_model.specs.Refines.{IsPlainAndIdle};
 ghost use Rattle.std.specs.List.{AllByRecursion};
 ghost use Rattle.uring_model.specs.Asks.{IsJobEntry};
 ghost use Rattle.uring_model.specs.Progress.{turns};
@@ -53,13 +53,13 @@ pub fn drive<R: UserEnds + PartnerSide, P: Partner>(
     ensures run { (r : Driven P.machine P.log P.state partner.old partner.new todo.old (R.entries_fit engine.old.ring) idle)
         × MatchResult result
         (λ _. (count_open table.new.slots.items ≡ 0) × (table.new.slots.items ≡ slots_from 0 todo.old (posted r.moves)) × (first_strange (lends_in todo.old) nothing_seen (log_of r.moves) ≡ None)
-        × ((a : State P.World) → P.state partner.old ≡ Some a → IsIdle P.Plain a → turns r.moves ≤ length todo.old))
+        × ((a : State P.World) → P.state partner.old ≡ Some a → IsPlainAndIdle P.Plain a → turns r.moves ≤ length todo.old))
         (λ e. IsGivenUp todo.old idle (log_of r.moves) e) }
     ensures cause { HasCause is_partner_fault (P.faults partner.old) (P.faults partner.new) result }
     ensures unplanned { IfSome (P.state partner.old) (λ _. P.plan partner.old ≡ [] → IfErr result (λ e. is_partner_fault e ≡ false)) }
     ensures plan { P.plan partner.old ≡ [] → P.plan partner.new ≡ [] }
     ensures calm { IfSome (P.state partner.old) (λ _. P.plan partner.old ≡ [] → P.faults partner.new ≡ P.faults partner.old) }
-    ensures unstalled { IfSome (P.state partner.old) (λ a. IsIdle P.Plain a → IfErr result (λ e. is_stall e ≡ false)) }
+    ensures unstalled { IfSome (P.state partner.old) (λ a. IsPlainAndIdle P.Plain a → IfErr result (λ e. is_stall e ≡ false)) }
 {
     model_laws::<P>();
     let mut idled = 0;

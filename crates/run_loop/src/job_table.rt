@@ -1,7 +1,7 @@
 //! The jobs of a run: which are started, and what came of them.
 
 ghost use Rattle.std.specs.Prelude.{◌≡◌, ◌≤◌, IfOk, vec_len};
-ghost use Rattle.run_loop.specs.Slots.{count_open, opened, open_slots};
+ghost use Rattle.run_loop.specs.Slots.{count_open, open_slot, open_slots};
 
 use crate::flights::InFlight;
 use crate::job_op::{JobOp, JobPoll};
@@ -30,7 +30,7 @@ impl JobTable {
     ghost use Rattle.std.specs.List.{AllByRecursion};
     ghost use Rattle.rent_engine.specs.Ops.{done_at, polled, taken_out};
     ghost use Rattle.run_loop.specs.Slots.{open_slots};
-    ghost use Rattle.run_loop.specs.Flights.{AreOperated, NoneResolved, all_polled, with_polled, left_by, jobs_of, AreReplied};
+    ghost use Rattle.run_loop.specs.Flights.{AreOperated, NoneResolved, all_polled, with_polled, left_by, jobs_in_flight, AreReplied};
     ghost use Rattle.run_loop.specs.JobOps.{key_of, reply_of};
     ghost use Rattle.run_loop.specs.declared.slot.Reply.{Reply};
     ghost use Rattle.run_loop.specs.Steps.{CanBePolled};
@@ -78,7 +78,7 @@ impl JobTable {
         requires named { key_of op ≡ Some self.old.started }
         ensures started { OnOk result (self.new.started ≡ self.old.started + 1) }
         ensures slots { self.new.slots.items ≡ self.old.slots.items }
-        ensures in_flight { OnOk result (jobs_of self.new.in_flight.items ≡ jobs_of self.old.in_flight.items ++ self.old.started ∷ []) }
+        ensures in_flight { OnOk result (jobs_in_flight self.new.in_flight.items ≡ jobs_in_flight self.old.in_flight.items ++ self.old.started ∷ []) }
         ensures replied { AreReplied self.old.slots.items self.old.in_flight.items → slice_get self.old.slots.items self.old.started ≡ Some (Slot.Open (reply_of op)) → OnOk result (AreReplied self.new.slots.items self.new.in_flight.items) }
     {
         let job = self.started;
@@ -112,7 +112,7 @@ impl JobTable {
         ensures ops { engine.new.ops ≡ taken_out flight.job engine.old.ops }
         ensures slots { self.new.slots.items ≡ with_polled (reply_of flight.op) flight.job (polled engine.old.ops flight.job) self.old.slots.items }
         ensures started { self.new.started ≡ self.old.started }
-        ensures in_flight { OnOk result (jobs_of self.new.in_flight.items ≡ jobs_of self.old.in_flight.items ++ left_by (polled engine.old.ops flight.job) flight.job) }
+        ensures in_flight { OnOk result (jobs_in_flight self.new.in_flight.items ≡ jobs_in_flight self.old.in_flight.items ++ left_by (polled engine.old.ops flight.job) flight.job) }
         ensures replied { (replies : ℕ → Reply) → AllByRecursion (λ f. reply_of f.op ≡ replies f.job) self.old.in_flight.items → reply_of flight.op ≡ replies flight.job → OnOk result (AllByRecursion (λ f. reply_of f.op ≡ replies f.job) self.new.in_flight.items) }
     {
         let InFlight { job, op } = flight;
@@ -129,13 +129,13 @@ impl JobTable {
         alloc: Global,
         engine: &mut Engine<R>,
     ) -> Result<(), AllocError>
-        requires operated { AreOperated engine.old.ops self.old.started self.old.slots.items (jobs_of self.old.in_flight.items) }
+        requires operated { AreOperated engine.old.ops self.old.started self.old.slots.items (jobs_in_flight self.old.in_flight.items) }
         requires replied { AreReplied self.old.slots.items self.old.in_flight.items }
         ensures lists { R.lists engine.new.ring ≡ R.lists engine.old.ring }
         ensures room { R.room engine.new.ring ≡ R.room engine.old.ring }
         ensures started { self.new.started ≡ self.old.started }
         ensures slots { OnOk result (self.new.slots.items ≡ all_polled engine.old.ops self.old.slots.items) }
-        ensures operated { OnOk result (AreOperated engine.new.ops self.new.started self.new.slots.items (jobs_of self.new.in_flight.items)) }
+        ensures operated { OnOk result (AreOperated engine.new.ops self.new.started self.new.slots.items (jobs_in_flight self.new.in_flight.items)) }
         ensures replied { OnOk result (AreReplied self.new.slots.items self.new.in_flight.items) }
         ensures none { OnOk result (NoneResolved engine.new.ops) }
     {
@@ -152,7 +152,7 @@ impl JobTable {
 }
 
 fn open_slot(job: &Job) -> Slot
-    ensures { result ≡ opened job.now }
+    ensures { result ≡ open_slot job.now }
 {
     Slot::Open(reply_for(&job.kind))
 }

@@ -7,7 +7,7 @@ ghost use Rattle.ring_traits.specs.Lists.{Lists, Becomes, small};
 ghost use Rattle.run_loop.specs.Rounds.{pushed_more, IsCalm, Round, engine_fault, is_partner_fault};
 ghost use Rattle.uring_model.specs.Jobs.{model_job, is_valid_job};
 ghost use Rattle.run_loop.specs.Entries.{all_taken, job_entry, job_loan, offer_of};
-ghost use Rattle.run_loop.specs.Flights.{IsAhead, IsSettled, AreOperated, AreReplied, NoneResolved, jobs_of};
+ghost use Rattle.run_loop.specs.Flights.{IsAhead, IsSettled, AreOperated, AreReplied, NoneResolved, jobs_in_flight};
 
 use crate::job_table::JobTable;
 use crate::offers::{Due, Offers};
@@ -25,7 +25,7 @@ fn start<R: UserEnds>(
     next: Due,
     table: &mut JobTable,
 ) -> Result<(), RunFault>
-    requires operated { AreOperated engine.old.ops table.old.started table.old.slots.items (jobs_of table.old.in_flight.items) }
+    requires operated { AreOperated engine.old.ops table.old.started table.old.slots.items (jobs_in_flight table.old.in_flight.items) }
     requires replied { AreReplied table.old.slots.items table.old.in_flight.items }
     requires none { NoneResolved engine.old.ops }
     requires valid { is_valid_job (model_job next.job) ≡ true }
@@ -35,7 +35,7 @@ fn start<R: UserEnds>(
     ensures told { OnOk result (Becomes (R.lists engine.old.ring) (pushed_more (small (job_entry next.number next.job) (job_loan next.number next.job.kind) ∷ [])) (R.lists engine.new.ring)) }
     ensures room { OnOk result (R.room engine.old.ring ≡ R.room engine.new.ring + 1) }
     ensures waiting { OnOk result (R.waiting engine.new.ring ≡ R.waiting engine.old.ring) }
-    ensures operated { OnOk result (AreOperated engine.new.ops table.new.started table.new.slots.items (jobs_of table.new.in_flight.items)) }
+    ensures operated { OnOk result (AreOperated engine.new.ops table.new.started table.new.slots.items (jobs_in_flight table.new.in_flight.items)) }
     ensures replied { OnOk result (AreReplied table.new.slots.items table.new.in_flight.items) }
     ensures none { OnOk result (NoneResolved engine.new.ops) }
     ensures started { OnOk result (table.new.started ≡ table.old.started + 1) }
@@ -78,7 +78,7 @@ fn start_some<R: UserEnds>(
     Ok(())
 }
 
-fn fault_of(fault: EngineFault) -> RunFault
+fn as_run_fault(fault: EngineFault) -> RunFault
     ensures { result ≡ engine_fault fault }
 {
     match fault {
@@ -116,7 +116,7 @@ pub fn round<R: UserEnds + PartnerSide, P: Partner>(
     start_some(alloc, engine, todo, table)?;
     let report = match engine.turn(alloc, partner) {
         Ok(report) => report,
-        Err(fault) => return Err(fault_of(fault)),
+        Err(fault) => return Err(as_run_fault(fault)),
     };
     if table.poll_all(alloc, engine).is_err() {
         return Err(RunFault::NoMemory);

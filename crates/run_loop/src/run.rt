@@ -107,7 +107,7 @@ fn ring_of(alloc: Global, sq: u32, cq: u32, start: u32) -> Result<IoUring, Setup
 }
 
 /// Whether these are sizes of rings.
-fn is_valid(sq: u32, cq: u32) -> bool
+fn is_valid_size(sq: u32, cq: u32) -> bool
     ensures { result ≡ is_valid_size sq cq }
 {
     let mut builder: Builder = IoUring::builder();
@@ -137,7 +137,7 @@ pub fn run_jobs<P: Partner>(
     ensures plan { P.plan partner.old ≡ [] → P.plan partner.new ≡ [] }
     ensures calm { IfSome (P.state partner.old) (λ _. P.plan partner.old ≡ [] → P.faults partner.new ≡ P.faults partner.old) }
 {
-    if !is_valid(sq, cq) {
+    if !is_valid_size(sq, cq) {
         return Err(RunFault::BadSize);
     }
     if let Some(job) = first_bad_job(&jobs) {

@@ -1,4 +1,5 @@
 pub mod Seeding
-pub mod Performing
+pub mod Executing
 pub mod WordLemmas
+pub mod WordsSaid
 pub mod Ending

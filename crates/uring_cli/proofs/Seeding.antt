@@ -45,7 +45,7 @@ one_more_choice put log state plan front choice before now next so step logs pla
 pub seeded_both : {W : Type 0} (put : ℕ → List ℕ → W → W) {P : Type 0} (log : P → Option (List LogEvent)) (state : P → Option (schedule.State W)) (plan : P → List ℕ) (files : List Seed) (choices : List ℕ) (before now next : P)
     → IsSeeded put log state plan files [] before now → IsSeeded put log state plan [] choices now next → IsSeeded put log state plan files choices before next
 seeded_both put log state plan files choices before now next a b = record {
-  gains = becomes_then (state before) (state now) (state next) (seeded put files []) (seeded put [] choices) (seeded put files choices) (λ x. ap (λ c. record x { world = with_files put files x.files; choices = c ++ choices }) (append-nil x.choices)) a.gains b.gains;
+  gains = becomes_then (state before) (state now) (state next) (seeded put files []) (seeded put [] choices) (seeded put files choices) (λ x. ap (λ c. record x { world = with_files put files x.world; choices = c ++ choices }) (append-nil x.choices)) a.gains b.gains;
   logs = b.logs ∙ a.logs;
   plans = b.plans ∙ a.plans;
 }

@@ -6,10 +6,10 @@ use Rattle.uring_base.specs.Causes.{Rose}
 use Rattle.uring_model.specs.declared.jobs.Report.{Report}
 use Rattle.uring_model.specs.Machine.{Files}
 use Rattle.uring_model.specs.Schedule as schedule
-use Rattle.uring_model.specs.Refines.{IsIdle}
+use Rattle.uring_model.specs.Refines.{IsPlainAndIdle}
 use Rattle.run_loop.specs.Runs.{IsValidRun}
 use Rattle.uring_streams.specs.Bytes.{AppendsFront}
-use Rattle.uring_streams.specs.Inputs.{input_limit}
+use Rattle.uring_streams.specs.declared.read.TheConstants.{INPUT_LIMIT}
 use Rattle.uring_text.specs.Lines.{lines_of}
 use Rattle.uring_text.specs.Report.{text_of}
 use Rattle.uring_text.specs.Script.{Told, script_of}
@@ -17,7 +17,7 @@ use Rattle.uring_text.specs.declared.status.Status.{Status}
 use Rattle.uring_text.specs.declared.status.Status.TheVariants as ends
 use Rattle.uring_cli.specs.declared.words.Options.{Options}
 use Rattle.uring_cli.specs.Input.{GaveNone}
-use Rattle.uring_cli.specs.Runs.{Performed, Failed}
+use Rattle.uring_cli.specs.Runs.{Executed, Failed}
 
 -- what the source gave where no script came of it: the bytes left, their count and the faults, each before the call and
 -- after it. Where memory runs out the script may have been read, or not.
@@ -40,7 +40,7 @@ pub record Reported {W : Type 0} (mach : schedule.Machine W) (view : W → Files
   pub told : Told
   pub gave : Gave told
   pub report : Report
-  pub performed : Performed mach view Plain put log state plan told options before after (Ok report)
+  pub executed : Executed mach view Plain put log state plan told options before after (Ok report)
   pub wrote : Wrote (text_of report.outcomes.items report.journal.items)
 
 -- A script was read, and there was no report.
@@ -80,16 +80,20 @@ Writes old new faults faults' ends.Stalled = new ≡ old
 Writes old new faults faults' ends.PartnerFault = new ≡ old
 Writes old new faults faults' ends.NoMemory = new ≡ old
 
+-- where a count of faults stops
+abbrev pub last_count : ℕ
+last_count = 2 ^ 64 - 1
+
 -- The command with these options on a script that isn't too long, with sizes and jobs that are valid, over an idle partner
 -- without planned faults, and no fault of a stream in the call or at the end of its count.
 pub record IsGoodCall {W : Type 0} (Plain : W → Type 0) (options : Options) (text : List ℕ) (before : schedule.State W) (plan : List ℕ) (read read' write write' : ℕ) : Type 0 where
-  pub short : length text ≤ input_limit
+  pub short : length text ≤ INPUT_LIMIT
   pub told : Told
   pub script : script_of (lines_of text) ≡ Some told
   pub valid : IsValidRun options.sq options.cq told.jobs
-  pub idle : IsIdle Plain before
+  pub idle : IsPlainAndIdle Plain before
   pub unplanned : plan ≡ []
   pub reads : read' ≡ read
-  pub read_room : read < 2 ^ 64 - 1
+  pub read_room : read < last_count
   pub writes : write' ≡ write
-  pub write_room : write < 2 ^ 64 - 1
+  pub write_room : write < last_count

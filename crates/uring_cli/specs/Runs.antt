@@ -15,7 +15,7 @@ use Rattle.uring_cli.specs.declared.words.Options.{Options}
 use Rattle.uring_cli.specs.Seeds.{IsSeeded, IsPartSeeded}
 
 -- The script's files and choices were put in, and its jobs were run with this answer.
-pub record Performed {W : Type 0} (mach : schedule.Machine W) (view : W → Files) (Plain : W → Type 0) (put : ℕ → List ℕ → W → W) {P : Type 0} (log : P → Option (List LogEvent)) (state : P → Option (schedule.State W)) (plan : P → List ℕ) (told : Told) (options : Options) (before after : P) (answer : Result Report RunFault) : Type 0 where
+pub record Executed {W : Type 0} (mach : schedule.Machine W) (view : W → Files) (Plain : W → Type 0) (put : ℕ → List ℕ → W → W) {P : Type 0} (log : P → Option (List LogEvent)) (state : P → Option (schedule.State W)) (plan : P → List ℕ) (told : Told) (options : Options) (before after : P) (answer : Result Report RunFault) : Type 0 where
   pub given : P
   pub seeds : IsSeeded put log state plan told.files told.choices before given
   pub valid : IsValidRun options.sq options.cq told.jobs
@@ -30,10 +30,10 @@ pub record Refused {W : Type 0} (mach : schedule.Machine W) (view : W → Files)
 abbrev pub Failed : {W : Type 0} → schedule.Machine W → (W → Files) → (W → Type 0) → (ℕ → List ℕ → W → W) → {P : Type 0} → (P → Option (List LogEvent)) → (P → Option (schedule.State W)) → (P → List ℕ) → Told → Options → P → P → Status → Type 0
 Failed mach view Plain put log state plan told options before after ends.BadSize = Refused mach view Plain put log state plan told options before after faults.BadSize
 Failed mach view Plain put log state plan told options before after (ends.BadJob job) = Refused mach view Plain put log state plan told options before after (faults.BadJob job)
-Failed mach view Plain put log state plan told options before after (ends.Stranger number) = Performed mach view Plain put log state plan told options before after (Err (faults.Stranger number))
-Failed mach view Plain put log state plan told options before after ends.Stalled = Performed mach view Plain put log state plan told options before after (Err faults.Stalled)
-Failed mach view Plain put log state plan told options before after ends.PartnerFault = IsPartSeeded put log state plan told.files told.choices before after ⊎ Performed mach view Plain put log state plan told options before after (Err faults.PartnerFault)
-Failed mach view Plain put log state plan told options before after ends.NoMemory = IsPartSeeded put log state plan told.files told.choices before after ⊎ ((answer : Result Report RunFault) × Performed mach view Plain put log state plan told options before after answer)
+Failed mach view Plain put log state plan told options before after (ends.Stranger number) = Executed mach view Plain put log state plan told options before after (Err (faults.Stranger number))
+Failed mach view Plain put log state plan told options before after ends.Stalled = Executed mach view Plain put log state plan told options before after (Err faults.Stalled)
+Failed mach view Plain put log state plan told options before after ends.PartnerFault = IsPartSeeded put log state plan told.files told.choices before after ⊎ Executed mach view Plain put log state plan told options before after (Err faults.PartnerFault)
+Failed mach view Plain put log state plan told options before after ends.NoMemory = IsPartSeeded put log state plan told.files told.choices before after ⊎ ((answer : Result Report RunFault) × Executed mach view Plain put log state plan told options before after answer)
 Failed mach view Plain put log state plan told options before after ends.Done = ⊥
 Failed mach view Plain put log state plan told options before after ends.Usage = ⊥
 Failed mach view Plain put log state plan told options before after ends.ReadFault = ⊥
@@ -41,16 +41,16 @@ Failed mach view Plain put log state plan told options before after ends.TooLong
 Failed mach view Plain put log state plan told options before after (ends.Script line) = ⊥
 Failed mach view Plain put log state plan told options before after ends.WriteFault = ⊥
 
-abbrev pub is_partner_fault : Status → Bool
-is_partner_fault ends.PartnerFault = true
-is_partner_fault ends.Done = false
-is_partner_fault ends.Usage = false
-is_partner_fault ends.ReadFault = false
-is_partner_fault ends.TooLong = false
-is_partner_fault (ends.Script line) = false
-is_partner_fault ends.BadSize = false
-is_partner_fault (ends.BadJob job) = false
-is_partner_fault (ends.Stranger number) = false
-is_partner_fault ends.Stalled = false
-is_partner_fault ends.WriteFault = false
-is_partner_fault ends.NoMemory = false
+abbrev pub ends_in_partner_fault : Status → Bool
+ends_in_partner_fault ends.PartnerFault = true
+ends_in_partner_fault ends.Done = false
+ends_in_partner_fault ends.Usage = false
+ends_in_partner_fault ends.ReadFault = false
+ends_in_partner_fault ends.TooLong = false
+ends_in_partner_fault (ends.Script line) = false
+ends_in_partner_fault ends.BadSize = false
+ends_in_partner_fault (ends.BadJob job) = false
+ends_in_partner_fault (ends.Stranger number) = false
+ends_in_partner_fault ends.Stalled = false
+ends_in_partner_fault ends.WriteFault = false
+ends_in_partner_fault ends.NoMemory = false

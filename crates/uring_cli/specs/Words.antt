@@ -1,9 +1,10 @@
--- The words of the command: `run`, then options in any order, each a name and a number, and none twice.
-use Rattle.std.specs.Prelude.{ℕ, ◌*◌, ◌^◌, min, List, [], ◌∷◌, Option, Some, None, is_none, unwrap_or, option_map, bytes_eq, codes, nat_lt, ◌&&◌, if◌then◌else◌}
+-- The words of the command, as they are read: `run`, then options in any order, each a name and a number, and none twice.
+use Rattle.std.specs.Prelude.{ℕ, ◌+◌, ◌*◌, min, List, [], ◌∷◌, Option, Some, None, is_none, unwrap_or, option_map, bytes_eq, codes, nat_lt, ◌&&◌, if◌then◌else◌}
 use Rattle.uring_text.specs.Lines.{number_below}
 use Rattle.uring_text.specs.Script.{◌>>=◌}
 use Rattle.uring_cli.specs.declared.words.Given.{Given}
 use Rattle.uring_cli.specs.declared.words.Options.{Options}
+use Rattle.uring_cli.specs.declared.words.TheConstants.{MAX_NUMBER, DEFAULT_ENTRIES, DEFAULT_IDLE}
 
 abbrev pub nothing_given : Given
 nothing_given = record { sq = None; cq = None; start = None; idle = None }
@@ -22,17 +23,17 @@ unfoldable pub given_by : Given → List (List ℕ) → Option Given
 given_by given [] = Some given
 given_by given (name ∷ []) = None
 given_by given (name ∷ number ∷ words) = do
-  n ← number_below (2 ^ 32) number
+  n ← number_below (MAX_NUMBER + 1) number
   next ← with_option name n given
   given_by next words
 
--- what isn't given: 8 entries, twice as many completions as entries, positions from 0, and 16 idle turns
+-- what isn't given stands at its default
 abbrev pub in_force : Given → Options
 in_force given = record {
-  sq = unwrap_or given.sq 8;
-  cq = unwrap_or given.cq (min (2 * unwrap_or given.sq 8) 4294967295);
+  sq = unwrap_or given.sq DEFAULT_ENTRIES;
+  cq = unwrap_or given.cq (min (2 * unwrap_or given.sq DEFAULT_ENTRIES) MAX_NUMBER);
   start = unwrap_or given.start 0;
-  idle = unwrap_or given.idle 16;
+  idle = unwrap_or given.idle DEFAULT_IDLE;
 }
 
 -- the options of the command's words, where these are such

@@ -5,17 +5,24 @@ ghost use Rattle.std.specs.Prelude.{◌≡◌, ◌≢◌, ◌⊎◌, None};
 ghost use Rattle.uring_text.specs.declared.status.Status.TheVariants.{NoMemory, PartnerFault, Usage};
 ghost use Rattle.uring_cli.specs.Words.{options_of};
 
+mod execute;
+mod input;
+mod laws;
+mod main_call;
 #[cfg(test)]
 mod tests;
+mod words;
 
-use ring_command::{Word, ring_main};
+pub use laws::options_are_as_said;
+pub use main_call::ring_main;
 use std::env;
-use std::io::{self, BufReader, Write};
+use std::io::{self, BufReader};
 use std::process::ExitCode;
 use uring_base::Buf;
 use uring_partner::MemoryPartner;
-use uring_streams::{StdSink, StdSource};
-use uring_text::{Status, status_text};
+pub use uring_streams::{MemorySink, MemorySource, Sink, Source, StdSink, StdSource};
+pub use uring_text::{Status, status_text};
+pub use words::{DEFAULT_ENTRIES, DEFAULT_IDLE, MAX_NUMBER, Options, Word, options_of};
 
 /// The words after the program's name.
 fn words_after_name(rt: &HostRuntime) -> io::Result<Vec<Word>> {
@@ -51,23 +58,14 @@ fn status_without_words(error: io::Error) -> Status {
     }
 }
 
-/// Says a status that isn't `Done` on standard error.
-fn tell(rt: &HostRuntime, status: Status) {
-    let Ok(text) = status_text(rt.alloc(), status) else {
-        return;
-    };
-    let mut errors = rt.stderr();
-    let _ = errors.write_all(text.as_slice());
-    let _ = errors.write_all(b"\n");
-}
-
 fn main(rt: HostRuntime) -> ExitCode {
     let status = match words_after_name(&rt) {
         Ok(words) => run(&rt, &words),
         Err(error) => status_without_words(error),
     };
     if status != Status::Done {
-        tell(&rt, status);
+        // The text takes no memory. Where standard error fails, the exit status still tells.
+        let _ = eprintln!(rt; "{status}");
     }
     ExitCode::from(status.code())
 }

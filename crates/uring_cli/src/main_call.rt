@@ -2,14 +2,14 @@
 
 ghost use Rattle.std.specs.Prelude.{◌≡◌, ◌≢◌, ◌+◌, ◌<◌, ◌≤◌, ◌↔◌, ◌⊎◌, [], None, IfSome};
 ghost use Rattle.uring_base.specs.Causes.{Rose};
-ghost use Rattle.uring_streams.specs.Inputs.{input_limit};
+ghost use Rattle.uring_streams.specs.declared.read.TheConstants.{INPUT_LIMIT};
 ghost use Rattle.uring_text.specs.declared.status.Status.TheVariants.{Done, NoMemory, PartnerFault, TooLong, Usage};
 ghost use Rattle.uring_cli.specs.Words.{options_of};
 ghost use Rattle.uring_cli.specs.Input.{GaveScript};
 ghost use Rattle.uring_cli.specs.Ends.{Reads, Runs, Writes, IsGoodCall};
 
+use crate::execute::execute;
 use crate::input::read_input;
-use crate::perform::perform;
 use crate::words::{Word, options_of};
 use partner_traits::{Partner, Seedable};
 use std::alloc::Global;
@@ -30,7 +30,7 @@ pub fn ring_main<I: Source, O: Sink, P: Partner + Seedable>(
     ensures usage { (result ≡ Usage) ↔ (options_of words.now ≡ None) }
     ensures unread { result ≡ Usage → input.new ≡ input.old }
     ensures reads { Reads (I.left input.old) (I.left input.new) (I.taken input.old) (I.taken input.new) (I.faults input.old) (I.faults input.new) result }
-    ensures too_long { (result ≡ TooLong) ↔ (I.taken input.old + input_limit < I.taken input.new) }
+    ensures too_long { (result ≡ TooLong) ↔ (I.taken input.old + INPUT_LIMIT < I.taken input.new) }
     ensures runs { IfSome (options_of words.now) (λ options. Runs P.machine P.view P.Plain P.put P.log P.state P.plan (GaveScript (I.left input.old) (I.left input.new) (I.taken input.old) (I.taken input.new)) (O.written out.old) (O.written out.new) options partner.old partner.new result) }
     ensures untouched { result ≡ Usage → partner.new ≡ partner.old }
     ensures writes { Writes out.old out.new (O.faults out.old) (O.faults out.new) result }
@@ -47,7 +47,7 @@ pub fn ring_main<I: Source, O: Sink, P: Partner + Seedable>(
         Ok(script) => script,
         Err(status) => return status,
     };
-    let text = match perform(alloc, options, script, partner) {
+    let text = match execute(alloc, options, script, partner) {
         Ok(text) => text,
         Err(status) => return status,
     };

@@ -1,8 +1,8 @@
 //! The words of the command.
 
-ghost use Rattle.std.specs.Prelude.{◌≡◌, ◌<◌, ◌^◌, IfSome};
+ghost use Rattle.std.specs.Prelude.{◌≡◌, ◌+◌, ◌<◌, ◌≤◌, IfSome};
 ghost use Rattle.uring_text.specs.Lines.{number_below};
-ghost use Rattle.uring_cli.specs.Words.{in_force, nothing_given, options_of, with_option};
+ghost use Rattle.uring_cli.specs.Words.{given_by, in_force, nothing_given, options_of, with_option};
 
 use uring_base::Buf;
 use uring_text::number_to;
@@ -11,7 +11,13 @@ use uring_text::number_to;
 pub type Word = Buf;
 
 /// The greatest number that an option takes.
-const MOST_NUMBER: u64 = 4_294_967_295;
+pub const MAX_NUMBER: u64 = u32::MAX as u64;
+
+/// How many entries the submission ring holds where `--sq` isn't given.
+pub const DEFAULT_ENTRIES: u32 = 8;
+
+/// After how many idle turns in a row the run is given up where `--idle` isn't given.
+pub const DEFAULT_IDLE: u32 = 16;
 
 /// What the options say, each where it is given.
 #[derive(Clone, Copy)]
@@ -45,7 +51,7 @@ impl Given {
 
     /// One more option, unless there is none of this name, or it came before.
     #[tactic(auto, unfolding(crate::specs::Words::with_option))]
-    fn with_option(self, name: &[u8], number: u32) -> Option<Given>
+    pub fn with_option(self, name: &[u8], number: u32) -> Option<Given>
         ensures { result ≡ with_option name.now number self }
     {
         if name == b"--sq".as_slice() && self.sq.is_none() {
@@ -77,37 +83,48 @@ impl Given {
     fn in_force(self) -> Options
         ensures { result ≡ in_force self }
     {
-        let sq = self.sq.unwrap_or(8);
+        let sq = self.sq.unwrap_or(DEFAULT_ENTRIES);
         Options {
             sq,
             cq: self.cq.unwrap_or(sq.saturating_mul(2)),
             start: self.start.unwrap_or(0),
-            idle: self.idle.unwrap_or(16),
+            idle: self.idle.unwrap_or(DEFAULT_IDLE),
         }
     }
 }
 
-/// The number of 32 bits that the word spells.
+/// The number that the word spells, where it is one that an option takes.
 fn number_of(word: &Word) -> Option<u32>
-    ensures { result ≡ number_below (2 ^ 32) word.now }
+    ensures { result ≡ number_below (MAX_NUMBER + 1) word.now }
 {
-    let number = number_to(word.as_slice(), MOST_NUMBER)?;
+    let number = number_to(word.as_slice(), MAX_NUMBER)?;
     Some(number as u32)
 }
 
-/// The options of the command `run`, where the words are its name and then options.
-pub fn options_of(words: &[Word]) -> Option<Options>
-    ensures options { result ≡ options_of words.now }
-    ensures idle { IfSome result (λ options. 0 < options.idle) }
+/// What names and numbers in turn give.
+fn given_by(words: &[Word]) -> Option<Given>
+    ensures given { result ≡ given_by nothing_given words.now }
+    ensures idle { IfSome result (λ given. IfSome given.idle (λ idle. 0 < idle)) }
 {
-    let mut rest = words.iter();
-    if rest.next()?.as_slice() != b"run".as_slice() {
-        return None;
-    }
     let mut given = Given::nothing();
+    let mut rest = words.iter();
     while let Some(name) = rest.next() {
         let number = number_of(rest.next()?)?;
         given = given.with_option(name.as_slice(), number)?;
     }
+    Some(given)
+}
+
+/// The options of the command `run`, where the words are its name and then options.
+#[tactic(auto, unfolding(crate::specs::Words::options_of))]
+pub fn options_of(words: &[Word]) -> Option<Options>
+    ensures options { result ≡ options_of words.now }
+    ensures idle { IfSome result (λ options. 0 < options.idle) }
+{
+    let (name, settings) = words.split_first()?;
+    if name.as_slice() != b"run".as_slice() {
+        return None;
+    }
+    let given = given_by(settings)?;
     Some(given.in_force())
 }

@@ -11,7 +11,7 @@ use Rattle.uring_base.specs.Loans.{part_of}
 use Rattle.uring_model.specs.declared.jobs.Link.TheVariants.{Free}
 use Rattle.uring_model.specs.Machine.{Files}
 use Rattle.uring_model.specs.Jobs.{Job, linked}
-use Rattle.uring_model.specs.Replay.{Result, Row, Open, Done, State, cuts, all_done, last_unlinked, replay, IsWhole, outcomes, table}
+use Rattle.uring_model.specs.Replay.{Result, Row, Open, Done, ReplayState, cuts, all_done, last_unlinked, replay, IsWhole, outcomes, table}
 use Rattle.uring_model.specs.Moves.{Move, took, posted, journal_of, log_of}
 use Rattle.uring_model.specs.Partner.{job_of, PartnerState, cut_of, tail_for, is_nil, Steps, IsIdle, idle}
 use Rattle.uring_model.specs.Explained.{Numbered, record_one, record_all, AllFresh, Explained}
@@ -30,7 +30,7 @@ no_jobs : (jobs : List Job) → length jobs ≡ 0 → jobs ≡ []
 no_jobs [] h = refl
 no_jobs (job ∷ jobs) h = absurd (omega arith)
 
-pub whole_where_set : (s : State) → All IsSome (table s) → IsWhole s
+pub whole_where_set : (s : ReplayState) → All IsSome (table s) → IsWhole s
 whole_where_set s h =
     let p = set_rows s.rows (length s.rest) (recursion_from_All IsSome (table s) h) in
     record { taken = no_jobs s.rest p.1; settled = p.0 }
@@ -41,10 +41,10 @@ done_rows (Open job m ∷ rows) h = cc
 done_rows (Done job r ∷ rows) h = (refl, done_rows rows h)
 
 -- the table of a whole state is its rows' outcomes
-pub whole_table : (s : State) → IsWhole s → table s ≡ outcomes s.rows
+pub whole_table : (s : ReplayState) → IsWhole s → table s ≡ outcomes s.rows
 whole_table s w = ap (λ l. outcomes s.rows ++ replicate (length l) None) w.taken ∙ append-nil (outcomes s.rows)
 
-pub set_where_whole : (s : State) → IsWhole s → All IsSome (table s)
+pub set_where_whole : (s : ReplayState) → IsWhole s → All IsSome (table s)
 set_where_whole s w = All-from_recursion IsSome (table s) (subst (AllByRecursion IsSome) (sym (whole_table s w)) (done_rows s.rows w.settled))
 
 -- each completion that is the first of its job sets one outcome
@@ -85,13 +85,13 @@ whole_by_count jobs files choices ms b e n =
 
 -- what was taken and what is to come are the entries
 
-pub told_ends : (all : List Taken) (b : PartnerState) (s : State) → Related all b s [] → b.pending ≡ [] → IsWhole s
+pub told_ends : (all : List Taken) (b : PartnerState) (s : ReplayState) → Related all b s [] → b.pending ≡ [] → IsWhole s
 told_ends all b s r e = record {
   taken = r.rest;
   settled = ap all_done r.rows ∙ sym (nil_done None r.lines) ∙ ap is_nil (sym r.pending ∙ e);
 }
 
-pub whole_at_end : (jobs : List Job) (files : Files) (choices : List ℕ) (ms : List Move) (b : PartnerState) (s : State)
+pub whole_at_end : (jobs : List Job) (files : Files) (choices : List ℕ) (ms : List Move) (b : PartnerState) (s : ReplayState)
     → map job_of (took ms) ≡ last_unlinked jobs → Numbered 0 (took ms) → Steps false (idle files choices) ms b
     → replay jobs files (journal_of (log_of ms)) ≡ Some s → b.pending ≡ [] → IsWhole s
 whole_at_end jobs files choices ms b s asks numbered h e p =
@@ -137,7 +137,7 @@ ends_idle : (ls : List Line) (jobs : List Job) → map job_of (takens ls) ≡ la
 ends_idle ls [] e = ap (tail_after None) (no_lines ls e)
 ends_idle ls (job ∷ jobs) e = ends_free None ls job jobs e
 
-pub related_idle : (all : List Taken) (jobs : List Job) (b : PartnerState) (s : State) (ahead : List Taken) → map job_of all ≡ last_unlinked jobs → Related all b s ahead → IsWhole s → IsIdle b
+pub related_idle : (all : List Taken) (jobs : List Job) (b : PartnerState) (s : ReplayState) (ahead : List Taken) → map job_of all ≡ last_unlinked jobs → Related all b s ahead → IsWhole s → IsIdle b
 related_idle all jobs b s ahead asks r w =
     let none : ahead ≡ [] = no_entries ahead (sym r.rest ∙ w.taken) in
     let names : takens r.lines ≡ all = sym (append-nil (takens r.lines)) ∙ ap (λ l. takens r.lines ++ l) (sym none) ∙ r.entries in
@@ -146,7 +146,7 @@ related_idle all jobs b s ahead asks r w =
       tail = r.tail ∙ ends_idle r.lines jobs (ap (map job_of) names ∙ asks);
     }
 
-pub idle_where_whole : (jobs : List Job) (files : Files) (choices : List ℕ) (ms : List Move) (ahead : List Taken) (b : PartnerState) (s : State)
+pub idle_where_whole : (jobs : List Job) (files : Files) (choices : List ℕ) (ms : List Move) (ahead : List Taken) (b : PartnerState) (s : ReplayState)
     → map job_of (took ms ++ ahead) ≡ last_unlinked jobs → Numbered 0 (took ms ++ ahead) → Steps false (idle files choices) ms b
     → replay jobs files (journal_of (log_of ms)) ≡ Some s → IsWhole s → IsIdle b
 idle_where_whole jobs files choices ms ahead b s asks numbered h e w =

@@ -19,7 +19,7 @@ use Rattle.uring_model.specs.declared.operation.Operation.{Operation}
 use Rattle.uring_model.specs.Machine.{Files, FileAnswer, step}
 use Rattle.uring_model.specs.Jobs.{model_job, model_jobs, model_op, buf_lent, is_valid_op, is_valid_job}
 use Rattle.uring_model.specs.Operations.{op_in, answer_in, FindsAs}
-use Rattle.uring_model.specs.Replay.{Done, Place, State, can_mark, can_mark_other, mark_if, settle, severed, may, place_of, post_at, settled, outcome_of, last_unlinked}
+use Rattle.uring_model.specs.Replay.{Done, Place, ReplayState, can_mark, can_mark_other, mark_if, settle, severed, may, place_of, post_at, settled, outcome_of, last_unlinked}
 use Rattle.uring_model.specs.Rows.{rows_in, place_between, HasCount, HasCounts}
 use Rattle.uring_model.proofs.Scanned.{place_at, place_past, place_in, place_if, rows_put}
 use Rattle.uring_model.proofs.Steps.{step_finds}
@@ -60,7 +60,7 @@ unlinked (x ∷ []) (suc k) j h e = absurd (omega arith)
 unlinked (x ∷ y ∷ js) zero j h e = absurd (omega arith)
 unlinked (x ∷ y ∷ js) (suc k) j h e = ap (λ l. model_job x ∷ l) (unlinked (y ∷ js) k j (omega arith) e)
 
-pub post_past : (s : State) (r : ℤ) (k : ℕ) (rows : List code.Row) → length rows ≤ k → None ≡ post_at s r (place_of [] (rows_in rows) k)
+pub post_past : (s : ReplayState) (r : ℤ) (k : ℕ) (rows : List code.Row) → length rows ≤ k → None ≡ post_at s r (place_of [] (rows_in rows) k)
 post_past s r k rows h = ap (post_at s r) (sym (place_past [] k rows h))
 
 place_if_some : (o : Option Settled) (p : Place) → is_some o ≡ true → place_if o p ≡ None
@@ -71,19 +71,19 @@ place_if_none : (o : Option Settled) (p : Place) → is_some o ≡ false → pla
 place_if_none None p h = refl
 place_if_none (Some o) p h = cc
 
-pub post_done : (s : State) (r : ℤ) (k : ℕ) (rows : List code.Row) (row : code.Row) → k < length rows → row ≡ get_or rows k row → is_some row.outcome ≡ true → None ≡ post_at s r (place_of [] (rows_in rows) k)
+pub post_done : (s : ReplayState) (r : ℤ) (k : ℕ) (rows : List code.Row) (row : code.Row) → k < length rows → row ≡ get_or rows k row → is_some row.outcome ≡ true → None ≡ post_at s r (place_of [] (rows_in rows) k)
 post_done s r k rows row h e o = ap (post_at s r) (sym (place_at [] k rows row h e ∙ place_if_some row.outcome (place_in [] rows k row) o))
 
-pub post_open : (s : State) (r : ℤ) (k : ℕ) (rows : List code.Row) (row : code.Row) → k < length rows → row ≡ get_or rows k row → is_some row.outcome ≡ false → post_at s r (Some (place_between (take k rows) row (drop (k + 1) rows))) ≡ post_at s r (place_of [] (rows_in rows) k)
+pub post_open : (s : ReplayState) (r : ℤ) (k : ℕ) (rows : List code.Row) (row : code.Row) → k < length rows → row ≡ get_or rows k row → is_some row.outcome ≡ false → post_at s r (Some (place_between (take k rows) row (drop (k + 1) rows))) ≡ post_at s r (place_of [] (rows_in rows) k)
 post_open s r k rows row h e o =
     let one : k + 1 ≡ suc k = omega arith in
     ap (λ n. post_at s r (Some (place_between (take k rows) row (drop n rows)))) one
     ∙ ap (post_at s r) (sym (place_at [] k rows row h e ∙ place_if_none row.outcome (place_in [] rows k row) o))
 
-pub post_early : (s : State) (r : ℤ) (p : Place) → may p.before p.job ≡ false → None ≡ post_at s r (Some p)
+pub post_early : (s : ReplayState) (r : ℤ) (p : Place) → may p.before p.job ≡ false → None ≡ post_at s r (Some p)
 post_early s r p h = rw h refl
 
-pub post_wrong : (s : State) (r : ℤ) (p : Place) (a : FileAnswer) → a ≡ settle s.files p → int_eq a.result r ≡ false → None ≡ post_at s r (Some p)
+pub post_wrong : (s : ReplayState) (r : ℤ) (p : Place) (a : FileAnswer) → a ≡ settle s.files p → int_eq a.result r ≡ false → None ≡ post_at s r (Some p)
 post_wrong s r p a e h =
     let t : int_eq (settle s.files p).result r ≡ false = subst (λ a. int_eq a.result r ≡ false) e h in
     rw (t, and-false (may p.before p.job)) refl
@@ -94,7 +94,7 @@ settle_behind a files before row rows n e =
     e ∙ ap (λ m. settle files (place_between before row (take m (drop n rows)))) (sym (length-drop n rows))
     ∙ ap (λ l. settle files (place_between before row l)) (take-length (drop n rows))
 
-pub post_right : (s : State) (r : ℤ) (p : Place) (a : FileAnswer) → may p.before p.job ≡ true → a ≡ settle s.files p → int_eq a.result r ≡ true → Some (settled s p a) ≡ post_at s r (Some p)
+pub post_right : (s : ReplayState) (r : ℤ) (p : Place) (a : FileAnswer) → may p.before p.job ≡ true → a ≡ settle s.files p → int_eq a.result r ≡ true → Some (settled s p a) ≡ post_at s r (Some p)
 post_right s r p a m e h =
     let t : int_eq (settle s.files p).result r ≡ true = subst (λ a. int_eq a.result r ≡ true) e h in
     rw (m, t) (ap (λ a. Some (settled s p a)) e)
@@ -108,7 +108,7 @@ abbrev pub settled_row : code.Row → ℤ → List ℕ → code.Row
 settled_row now r buf = record { job = now.job; marked = now.marked; outcome = Some (record { result = r; buf = buf }) }
 
 -- the state that is left where a job settled, and marked the job that its cancel found
-pub posted : (s : State) (k : ℕ) (rows new : List code.Row) (row now : code.Row) (a : FileAnswer) (r : ℤ)
+pub posted : (s : ReplayState) (k : ℕ) (rows new : List code.Row) (row now : code.Row) (a : FileAnswer) (r : ℤ)
     → k < length rows → row ≡ get_or rows k row → now ≡ get_or rows k now → r ≡ a.result
     → rows_in new ≡ mark_if a.marks (rows_in (set rows k (settled_row now r a.buf)))
     → record { files = a.world; rows = rows_in new; rest = s.rest } ≡ settled s (place_between (take k rows) row (drop (k + 1) rows)) a

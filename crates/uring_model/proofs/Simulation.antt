@@ -16,7 +16,7 @@ use Rattle.uring_base.specs.declared.events.Event.{Event}
 use Rattle.uring_base.specs.Loans.{part_of, with_part}
 use Rattle.uring_model.specs.Machine.{Files, step, canceled}
 use Rattle.uring_model.specs.Jobs.{Job, linked, is_soft}
-use Rattle.uring_model.specs.Replay.{Result, Row, Open, Done, State, is_bad, waits, cuts, severed, Place, may, ready, place_of, mark, mark_if, settle, outcome_of, settled, post_at, replay_event, replay_next, replay_from, last_unlinked, first_state, outcomes, table}
+use Rattle.uring_model.specs.Replay.{Result, Row, Open, Done, ReplayState, is_bad, waits, cuts, severed, Place, may, ready, place_of, mark, mark_if, settle, outcome_of, settled, post_at, replay_event, replay_next, replay_from, last_unlinked, first_state, outcomes, table}
 use Rattle.uring_model.specs.Chosen.{choice, stops, numbers, Names, IsChosenNext, IsChosen}
 use Rattle.uring_model.specs.Moves.{Move, Turned, Took, Posted, took, posted, logged, event_of, journal_of, log_of}
 use Rattle.uring_model.specs.Partner.{job_of, PartnerState, cut_of, Cursor, ready_cursors, mark_first_if, pass, pass_end, answer_to, completion_of, named, after_take, after_settle, Settles, Steps, idle}
@@ -53,7 +53,7 @@ set_at : {A : Type 0} (xs : List A) (x y : A) (ys : List A) (j : ℕ) → j ≡ 
 set_at xs x y ys j e = rw e (set-append_seam xs x ys y)
 
 -- where the partner and the replay stand: both see the lines, and `ahead` are those of all entries that are to come
-pub record Related (all : List Taken) (a : PartnerState) (s : State) (ahead : List Taken) : Type 0 where
+pub record Related (all : List Taken) (a : PartnerState) (s : ReplayState) (ahead : List Taken) : Type 0 where
   pub lines : List Line
   pub rows : s.rows ≡ rows_of lines
   pub rest : s.rest ≡ map job_of ahead
@@ -66,7 +66,7 @@ pub record Related (all : List Taken) (a : PartnerState) (s : State) (ahead : Li
 
 -- a take
 
-take_known : (s : State) (j : ℕ) (job : Job) (rest : List Job) → s.rest ≡ job ∷ rest → j ≡ length s.rows → replay_event s (events.Take j) ≡ Some (record { files = s.files; rows = s.rows ++ Open job false ∷ []; rest = rest })
+take_known : (s : ReplayState) (j : ℕ) (job : Job) (rest : List Job) → s.rest ≡ job ∷ rest → j ≡ length s.rows → replay_event s (events.Take j) ≡ Some (record { files = s.files; rows = s.rows ++ Open job false ∷ []; rest = rest })
 take_known s j job rest e h =
     let t : nat_eq j (length s.rows) ≡ true = grind (arith, nat_tests) in
     rw (e, t) refl
@@ -74,7 +74,7 @@ take_known s j job rest e h =
 none_more : (rows : List Row) (job : Job) (n : ℕ) → outcomes (rows ++ Open job false ∷ []) ++ replicate n None ≡ outcomes rows ++ replicate (suc n) None
 none_more rows job n = ap (λ l. l ++ replicate n None) (outcomes-append rows (Open job false ∷ [])) ∙ append_assoc (outcomes rows) (None ∷ []) (replicate n None)
 
-pub taken_one : (all : List Taken) (a : PartnerState) (s : State) (t : Taken) (ahead : List Taken) → Related all a s (t ∷ ahead) → (n : State) × (replay_event s (events.Take t.entry.user_data) ≡ Some n) × Related all (after_take a t) n ahead × (table n ≡ table s)
+pub taken_one : (all : List Taken) (a : PartnerState) (s : ReplayState) (t : Taken) (ahead : List Taken) → Related all a s (t ∷ ahead) → (n : ReplayState) × (replay_event s (events.Take t.entry.user_data) ≡ Some n) × Related all (after_take a t) n ahead × (table n ≡ table s)
 taken_one all a s t ahead r =
     let one : List Line = Held t false ∷ [] in
     let here = numbered_split 0 (takens r.lines) (t ∷ ahead) r.numbered in
@@ -110,10 +110,10 @@ not_true false e = refl
 may_waits : (before : List Row) (job : Job) → may before job ≡ true → waits false before ≡ false
 may_waits before job e = not_true (waits false before) (and_left (not (waits false before)) _ (and_left _ _ e))
 
-post_passes : (s n : State) (b c : Bool) → b ≡ true → c ≡ true → cond (b && c) (Some n) None ≡ Some n
+post_passes : (s n : ReplayState) (b c : Bool) → b ≡ true → c ≡ true → cond (b && c) (Some n) None ≡ Some n
 post_passes s n b c p q = rw (p, q) refl
 
-post_known : (s : State) (p : Place) (j : ℕ) (r : ℤ) → place_of [] s.rows j ≡ Some p → may p.before p.job ≡ true → (settle s.files p).result ≡ r → replay_event s (events.Post j r true) ≡ Some (settled s p (settle s.files p))
+post_known : (s : ReplayState) (p : Place) (j : ℕ) (r : ℤ) → place_of [] s.rows j ≡ Some p → may p.before p.job ≡ true → (settle s.files p).result ≡ r → replay_event s (events.Post j r true) ≡ Some (settled s p (settle s.files p))
 post_known s p j r g m e =
     let q : int_eq (settle s.files p).result r ≡ true = ap (int_eq (settle s.files p).result) (sym e) ∙ int_eq_equiv.refl (settle s.files p).result in
     ap (post_at s r) g ∙ post_passes s (settled s p (settle s.files p)) (may p.before p.job) (int_eq (settle s.files p).result r) m q
@@ -139,8 +139,8 @@ same_answer f g before after t m e h w n k =
     (step (e i) (λ j. sym (has_can j 0 None before n) i || sym (has_can j (length (rows_of before) + 1) (held_tail t) after k) i) (job_of t).op (job_of t).buf)
 
 -- where the settled entry stands
-pub settled_in : (all : List Taken) (a : PartnerState) (s : State) (ahead : List Taken) (before after : List Line) (t : Taken) (m : Bool) → (r : Related all a s ahead) → r.lines ≡ before ++ Held t m ∷ after → may (rows_of before) (job_of t) ≡ true
-    → (n : State) × (replay_event s (event_of (logged (Posted (completion_of t (answer_to a.world (cursor_in before t m after)))))) ≡ Some n)
+pub settled_in : (all : List Taken) (a : PartnerState) (s : ReplayState) (ahead : List Taken) (before after : List Line) (t : Taken) (m : Bool) → (r : Related all a s ahead) → r.lines ≡ before ++ Held t m ∷ after → may (rows_of before) (job_of t) ≡ true
+    → (n : ReplayState) × (replay_event s (event_of (logged (Posted (completion_of t (answer_to a.world (cursor_in before t m after)))))) ≡ Some n)
     × Related all (after_settle a (cursor_in before t m after) (answer_to a.world (cursor_in before t m after))) n ahead
     × (table n ≡ record_one (table s) (completion_of t (answer_to a.world (cursor_in before t m after))))
     × (length (rows_of before) ≡ t.entry.user_data)
@@ -202,8 +202,8 @@ settled_in all a s ahead before after t m r whole ok =
     )
 
 -- one settling, whichever entry the choice names
-pub settled_one : (all : List Taken) (a : PartnerState) (s : State) (ahead : List Taken) (c : Completion) → Related all a s ahead → (h : Settles a c)
-    → (n : State) × (replay_event s (event_of (logged (Posted c))) ≡ Some n) × Related all (after_settle a h.cursor (answer_to a.world h.cursor)) n ahead × (table n ≡ record_one (table s) c)
+pub settled_one : (all : List Taken) (a : PartnerState) (s : ReplayState) (ahead : List Taken) (c : Completion) → Related all a s ahead → (h : Settles a c)
+    → (n : ReplayState) × (replay_event s (event_of (logged (Posted c))) ≡ Some n) × Related all (after_settle a h.cursor (answer_to a.world h.cursor)) n ahead × (table n ≡ record_one (table s) c)
     × Names (choice a.choices) (numbers (ready [] s.rows)) c.user_data
     × (slice_get (table s) c.user_data ≡ Some None)
 settled_one all a s ahead c r h =
@@ -231,18 +231,18 @@ settled_one all a s ahead c r h =
 -- the whole law
 
 -- what the journal of these moves means
-pub record Told (all : List Taken) (over : Bool) (a b : PartnerState) (s : State) (ms : List Move) (ahead : List Taken) : Type 0 where
-  pub state : State
+pub record Told (all : List Taken) (over : Bool) (a b : PartnerState) (s : ReplayState) (ms : List Move) (ahead : List Taken) : Type 0 where
+  pub state : ReplayState
   pub replays : replay_from (journal_of (log_of ms)) s ≡ Some state
   pub chosen : IsChosen (journal_of (log_of ms)) a.choices over s
   pub related : Related all b state ahead
   pub outcomes : table state ≡ record_all (table s) (posted ms)
   pub fresh : AllFresh (table s) (posted ms)
 
-goes_on : (es : List Event) (e : Event) (s n : State) → replay_event s e ≡ Some n → replay_from (e ∷ es) s ≡ replay_from es n
+goes_on : (es : List Event) (e : Event) (s n : ReplayState) → replay_event s e ≡ Some n → replay_from (e ∷ es) s ≡ replay_from es n
 goes_on es e s n h = ap (λ o. replay_next es o (λ _ t. replay_from es t)) h
 
-pub tells : (all : List Taken) (over : Bool) (a b : PartnerState) (s : State) (ms : List Move) (ahead : List Taken) → Related all a s (took ms ++ ahead) → Steps over a ms b → Told all over a b s ms ahead
+pub tells : (all : List Taken) (over : Bool) (a b : PartnerState) (s : ReplayState) (ms : List Move) (ahead : List Taken) → Related all a s (took ms ++ ahead) → Steps over a ms b → Told all over a b s ms ahead
 tells all over a b s [] ahead r h = record { state = s; replays = refl; chosen = tt; related = subst (λ x. Related all x s ahead) (sym h) r; outcomes = refl; fresh = tt }
 tells all over a b s (Turned p ∷ ms) ahead r h =
     let t = tells all false a b s ms ahead r h in

@@ -5,7 +5,7 @@ use Rattle.uring_base.specs.declared.events.Completion.{Completion}
 use Rattle.uring_base.specs.Loans.{part_of}
 use Rattle.uring_model.specs.Machine.{Files}
 use Rattle.uring_model.specs.Jobs.{Job}
-use Rattle.uring_model.specs.Replay.{Result, State, last_unlinked, first_state, replay, table}
+use Rattle.uring_model.specs.Replay.{Result, ReplayState, last_unlinked, first_state, replay, table}
 use Rattle.uring_model.specs.Chosen.{IsChosen}
 use Rattle.uring_model.specs.Moves.{Move, took, posted, journal_of, log_of}
 use Rattle.uring_model.specs.Partner.{job_of, PartnerState, Steps, IsServed, IsIdle, idle}
@@ -32,7 +32,7 @@ AllFresh outs (c ∷ cs) = (slice_get outs c.user_data ≡ Some None) × AllFres
 -- The journal of the moves replays to a state, chosen by the choices. The state has the partner's files, and its
 -- outcomes are what the completions say, each of them the first of its job.
 pub record Explained (jobs : List Job) (files : Files) (choices : List ℕ) (ms : List Move) (b : PartnerState) : Type 0 where
-  pub state : State
+  pub state : ReplayState
   pub replays : replay jobs files (journal_of (log_of ms)) ≡ Some state
   pub chosen : IsChosen (journal_of (log_of ms)) choices false (first_state jobs files)
   pub files_at_end : state.files ≡ b.world

@@ -36,7 +36,7 @@ abbrev pub viewed : {W V : Type 0} → (W → V) → State W → State V
 viewed view a = record { world = view a.world; pending = a.pending; tail = a.tail; choices = a.choices }
 
 -- nothing is pending, no chain is open, and the world is plain
-pub record IsIdle {W : Type 0} (Plain : W → Type 0) (a : State W) : Type 0 where
+pub record IsPlainAndIdle {W : Type 0} (Plain : W → Type 0) (a : State W) : Type 0 where
   pub pending : a.pending ≡ []
   pub tail : a.tail ≡ None
   pub plain : Plain a.world

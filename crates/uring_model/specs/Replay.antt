@@ -18,7 +18,7 @@ pub data Row : Type 0 where
   Done : Job → Result → Row
 
 -- the files, the rows of the jobs taken, and the jobs not taken
-pub record State : Type 0 where
+pub record ReplayState : Type 0 where
   pub files : Files
   pub rows : List Row
   pub rest : List Job
@@ -123,32 +123,32 @@ abbrev pub outcome_of : FileAnswer → Result
 outcome_of a = record { result = a.result; buf = a.buf }
 
 -- the state once the job at a place has this answer
-abbrev pub settled : State → Place → FileAnswer → State
+abbrev pub settled : ReplayState → Place → FileAnswer → ReplayState
 settled s p a = record { files = a.world; rows = mark_if a.marks (p.before ++ Done p.job (outcome_of a) ∷ p.after); rest = s.rest }
 
 -- a post of this result, where the job at the place may settle and its settling gives the result
-abbrev pub post_at : State → ℤ → Option Place → Option State
+abbrev pub post_at : ReplayState → ℤ → Option Place → Option ReplayState
 post_at s r None = None
 post_at s r (Some p) = if may p.before p.job && int_eq (settle s.files p).result r then Some (settled s p (settle s.files p)) else None
 
 -- a take of job j, where it is the next of those not taken
-abbrev pub take_job : State → ℕ → List Job → Option State
+abbrev pub take_job : ReplayState → ℕ → List Job → Option ReplayState
 take_job s j [] = None
 take_job s j (job ∷ rest) = if nat_eq j (length s.rows) then Some (record { files = s.files; rows = s.rows ++ Open job false ∷ []; rest = rest }) else None
 
 -- the state after an event, and none where it can't take place
-abbrev pub replay_event : State → Event → Option State
+abbrev pub replay_event : ReplayState → Event → Option ReplayState
 replay_event s (Turn p) = Some s
 replay_event s (Take j) = take_job s j s.rest
 replay_event s (Post j r fin) = if fin then post_at s r (place_of [] s.rows j) else None
 
 -- go on where there is a state
-abbrev pub replay_next : List Event → Option State → (List Event → State → Option State) → Option State
+abbrev pub replay_next : List Event → Option ReplayState → (List Event → ReplayState → Option ReplayState) → Option ReplayState
 replay_next es None go = None
 replay_next es (Some s) go = go es s
 
 -- the state after these events
-abbrev pub replay_from : List Event → State → Option State
+abbrev pub replay_from : List Event → ReplayState → Option ReplayState
 replay_from [] s = Some s
 replay_from (e ∷ es) s = replay_next es (replay_event s e) (λ _ t. replay_from es t)
 
@@ -159,15 +159,15 @@ last_unlinked (job ∷ []) = record { op = job.op; buf = job.buf; drain = job.dr
 last_unlinked (job ∷ next ∷ jobs) = job ∷ last_unlinked (next ∷ jobs)
 
 -- no job is taken
-abbrev pub first_state : List Job → Files → State
+abbrev pub first_state : List Job → Files → ReplayState
 first_state jobs files = record { files = files; rows = []; rest = last_unlinked jobs }
 
 -- the state that a journal leads to, if it is one of these jobs over these files
-abbrev pub replay : List Job → Files → List Event → Option State
+abbrev pub replay : List Job → Files → List Event → Option ReplayState
 replay jobs files journal = replay_from journal (first_state jobs files)
 
 -- all jobs are taken and have an outcome
-pub record IsWhole (s : State) : Type 0 where
+pub record IsWhole (s : ReplayState) : Type 0 where
   pub taken : s.rest ≡ []
   pub settled : all_done s.rows ≡ true
 
@@ -186,5 +186,5 @@ outcomes (Open job m ∷ rows) = None ∷ outcomes rows
 outcomes (Done job r ∷ rows) = Some r ∷ outcomes rows
 
 -- the outcomes of all jobs, and none for one that isn't taken
-abbrev pub table : State → List (Option Result)
+abbrev pub table : ReplayState → List (Option Result)
 table s = outcomes s.rows ++ replicate (length s.rest) None

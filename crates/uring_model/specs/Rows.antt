@@ -9,7 +9,7 @@ use Rattle.uring_model.specs.declared.settling.Settling.{Settling}
 use Rattle.uring_model.specs.declared.replayed.Replayed.{Replayed}
 use Rattle.uring_model.specs.Machine.{Files, FileAnswer}
 use Rattle.uring_model.specs.Jobs.{Job, model_job, model_jobs, buf_lent, moves_bytes}
-use Rattle.uring_model.specs.Replay.{Row, Open, Done, Result, Place, State}
+use Rattle.uring_model.specs.Replay.{Row, Open, Done, Result, Place, ReplayState}
 
 -- what came of a settled job
 abbrev pub result_in : Settled → Result
@@ -53,23 +53,23 @@ outcomes_told (Open job m ∷ rows) = None ∷ outcomes_told rows
 outcomes_told (Done job r ∷ rows) = Some (outcome_told job r) ∷ outcomes_told rows
 
 -- the same of all jobs, and nothing for one that isn't taken
-abbrev pub table_told : State → List (Option Outcome)
+abbrev pub table_told : ReplayState → List (Option Outcome)
 table_told s = outcomes_told s.rows ++ replicate (length s.rest) None
 
 -- a settling as an answer that makes the files these
-abbrev pub answer_of : Settling → Files → FileAnswer
-answer_of s files = record { result = s.answered.result; buf = s.buf; world = files; marks = s.answered.marks }
+abbrev pub settling_answer : Settling → Files → FileAnswer
+settling_answer s files = record { result = s.answered.result; buf = s.buf; world = files; marks = s.answered.marks }
 
 -- the place of a row between these
 abbrev pub place_between : List code.Row → code.Row → List code.Row → Place
 place_between before row after = record { before = rows_in before; job = model_job row.job; marked = row.marked; after = rows_in after }
 
 -- the state that the program holds
-abbrev pub state_in : Replayed → State
+abbrev pub state_in : Replayed → ReplayState
 state_in replayed = record { files = replayed.files; rows = rows_in replayed.rows.items; rest = model_jobs replayed.rest.items }
 
 -- the state that is left where the event took place, and none where it could not
-abbrev pub state_if : Bool → Replayed → Option State
+abbrev pub state_if : Bool → Replayed → Option ReplayState
 state_if went replayed = cond went (Some (state_in replayed)) None
 
 -- the lengths of all buffers are results

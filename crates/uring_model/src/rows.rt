@@ -128,22 +128,22 @@ fn drains_done(rows: &[Row]) -> bool
 fn holds(row: &Row) -> bool
     ensures { (w : Bool) → waits w (row_in row.now ∷ []) ≡ result }
 {
-    row.outcome.is_none() && has_link(row.job.link)
+    row.outcome.is_none() && is_linked(row.job.link)
 }
 
 fn severs(cut: bool, row: &Row) -> bool
     ensures { severed cut (row_in row.now ∷ []) ≡ result }
 {
     match &row.outcome {
-        None => has_link(row.job.link) && cut,
+        None => is_linked(row.job.link) && cut,
         Some(settled) => {
-            has_link(row.job.link)
+            is_linked(row.job.link)
                 && (cut || (row.job.link == Link::Soft && has_gone_badly(&row.job, settled.result)))
         }
     }
 }
 
-fn has_link(link: Link) -> bool
+fn is_linked(link: Link) -> bool
     ensures { result ≡ linked link }
 {
     link != Link::Free

@@ -4,7 +4,7 @@ ghost use Rattle.std.specs.Prelude.{◌≡◌, ◌+◌, ◌||◌, ◌^◌, ◌<�
 ghost use Rattle.uring_model.specs.Operations.{op_in, PartFits, FindsAs};
 ghost use Rattle.uring_model.specs.Jobs.{model_op, buf_lent};
 ghost use Rattle.uring_model.specs.Replay.{settle, can_mark};
-ghost use Rattle.uring_model.specs.Rows.{rows_in, answer_of, place_between, HasCount};
+ghost use Rattle.uring_model.specs.Rows.{rows_in, settling_answer, place_between, HasCount};
 
 use crate::files::Files;
 use crate::jobs::JobKind;
@@ -31,7 +31,7 @@ pub fn settle(
     after: &[Row],
 ) -> Result<Settling, AllocError>
     requires { HasCount row.now.job }
-    ensures { IfOk result (λ s. answer_of s files.new ≡ settle files.old (place_between before.now row.now after.now)) }
+    ensures { IfOk result (λ s. settling_answer s files.new ≡ settle files.old (place_between before.now row.now after.now)) }
 {
     let mut buf = lent(alloc, &row.job.kind)?;
     if row.marked || is_severed(before) {

@@ -5,7 +5,7 @@ use Rattle.uring_base.specs.declared.events.Completion.{Completion}
 use Rattle.uring_ring.specs.declared.completion_queue.CompletionQueue.{CompletionQueue}
 use Rattle.uring_ring.specs.declared.completion_queue.Received.{Received}
 use Rattle.ring_core.specs.Held.{Held}
-use Rattle.ring_core.specs.Slots.{taken_out}
+use Rattle.ring_core.specs.Slots.{with_takes}
 use Rattle.uring_ring.specs.Queues.{completions_at, first_received, received_as, QueueSteps}
 use Rattle.uring_ring.specs.QueueLaws.{ItemsAreAsManyAsLen, ItemsAreTheWaiting}
 
@@ -16,7 +16,7 @@ front_first f (x ∷ xs) n = refl
 
 module _ {C : Type 0} (made_of : ℕ → ℤ → ℕ → List ℕ → C) where
   -- where one waits, the first and then those behind it
-  first_of_waiting : (h : Held Completion) → 0 < h.waiting → first_received made_of h.waiting h ≡ first_received made_of 1 h ++ first_received made_of (taken_out 1 h).waiting (taken_out 1 h)
+  first_of_waiting : (h : Held Completion) → 0 < h.waiting → first_received made_of h.waiting h ≡ first_received made_of 1 h ++ first_received made_of (with_takes 1 h).waiting (with_takes 1 h)
   first_of_waiting h some = ap (λ (n : ℕ). first_received made_of n h) (let e : h.waiting ≡ suc (h.waiting - 1) = omega arith in e) ∙ front_first (received_as made_of) h.published (h.waiting - 1)
 
   as_many : (items : List (Received C)) (q t u : CompletionQueue C) → Yields (QueueSteps made_of) q items t → QueueSteps made_of t None u → length items ≡ (completions_at q).waiting
@@ -33,7 +33,7 @@ module _ {C : Type 0} (made_of : ℕ → ℤ → ℕ → List ℕ → C) where
       let step = next.1.gives in
       let rest : items ≡ first_received made_of (completions_at next.0).waiting (completions_at next.0) = the_waiting items next.0 t u next.2 last in
       ap (λ l. x ∷ l) (rest ∙ ap (λ (h : Held Completion). first_received made_of h.waiting h) step.2)
-      ∙ ap (λ l. l ++ first_received made_of (taken_out 1 (completions_at q)).waiting (taken_out 1 (completions_at q))) (sym step.1)
+      ∙ ap (λ l. l ++ first_received made_of (with_takes 1 (completions_at q)).waiting (with_takes 1 (completions_at q))) (sym step.1)
       ∙ sym (first_of_waiting (completions_at q) step.0)
 
   pub items_are_as_many_as_len : ItemsAreAsManyAsLen made_of

@@ -4,7 +4,7 @@ use Rattle.std.specs.Prelude.{slice_set, MatchOption}
 use Rattle.uring_base.specs.declared.events.Completion.{Completion}
 use Rattle.uring_ring.specs.declared.completion_queue.Received.{Received}
 use Rattle.ring_core.specs.Held.{Held}
-use Rattle.ring_core.specs.Slots.{taken_out}
+use Rattle.ring_core.specs.Slots.{with_takes}
 use Rattle.uring_ring.specs.Queues.{received_as, first_received}
 use Rattle.ring_core.proofs.PutsAndTakes.{drop_more, takes_one}
 
@@ -50,13 +50,13 @@ filled_more f xs zs n x le lt one =
     ∙ (λ j. map Some ((ap (λ l. front ++ l) (sym one) ∙ sym (map_more f xs n)) j) ++ drop_more zs n j)
 
 -- one step of filling: the completion in front goes behind those that stand in the slice
-pub fill_step : {C : Type 0} (made_of : ℕ → ℤ → ℕ → List ℕ → C) (h k l : Held Completion) (r : Option (Received C)) (ys zs : List (Option (Received C))) (i : ℕ) → k ≡ taken_out i h
-    → MatchOption r ((k.waiting ≡ 0) × (l ≡ k)) (λ x. (0 < k.waiting) × (first_received made_of 1 k ≡ x ∷ []) × (l ≡ taken_out 1 k))
+pub fill_step : {C : Type 0} (made_of : ℕ → ℤ → ℕ → List ℕ → C) (h k l : Held Completion) (r : Option (Received C)) (ys zs : List (Option (Received C))) (i : ℕ) → k ≡ with_takes i h
+    → MatchOption r ((k.waiting ≡ 0) × (l ≡ k)) (λ x. (0 < k.waiting) × (first_received made_of 1 k ≡ x ∷ []) × (l ≡ with_takes 1 k))
     → ys ≡ map Some (first_received made_of i h) ++ drop i zs → i < h.waiting → h.waiting ≤ length h.published → i < length zs
-    → (slice_set ys i r ≡ map Some (first_received made_of (i + 1) h) ++ drop (i + 1) zs) × (l ≡ taken_out (i + 1) h)
+    → (slice_set ys i r ≡ map Some (first_received made_of (i + 1) h) ++ drop (i + 1) zs) × (l ≡ with_takes (i + 1) h)
 fill_step made_of h k l None ys zs i same none stand left all room = absurd (let waits : k.waiting ≡ h.waiting - i = ap (λ (x : Held Completion). x.waiting) same in omega (arith, none.0))
 fill_step {C} made_of h k l (Some x) ys zs i same some stand left all room =
     let one : map (received_as made_of) (take 1 (drop i h.published)) ≡ x ∷ [] = ap (λ (y : Held Completion). first_received made_of 1 y) (sym same) ∙ some.1 in (
       ap (λ (y : List (Option (Received C))). slice_set y i (Some x)) stand ∙ filled_more (received_as made_of) h.published zs i x (omega arith) room one,
-      some.2 ∙ ap (λ (y : Held Completion). taken_out 1 y) same ∙ takes_one i h,
+      some.2 ∙ ap (λ (y : Held Completion). with_takes 1 y) same ∙ takes_one i h,
     )

@@ -13,7 +13,7 @@ use Rattle.uring_ring.specs.declared.completion_queue.CompletionStatus.{Completi
 use Rattle.uring_ring.specs.declared.completion_queue.Received.{Received}
 use Rattle.uring_ring.specs.declared.completion_ring.CompletionWords.{CompletionWords}
 use Rattle.ring_core.specs.Held.{Held}
-use Rattle.ring_core.specs.Slots.{held_of, taken_out}
+use Rattle.ring_core.specs.Slots.{held_of, with_takes}
 
 -- what the lent ring holds, and the words beside it
 abbrev pub entries_at : {S : Type 0} → SubmissionQueue S → Held Taken
@@ -50,7 +50,7 @@ module _ {C : Type 0} (made_of : ℕ → ℤ → ℕ → List ℕ → C) where
     pub same_reference : new.ring.ghost_name ≡ old.ring.ghost_name
     pub words : completion_words_at new ≡ completion_words_at old
     pub gives : MatchOption item (((completions_at old).waiting ≡ 0) × (completions_at new ≡ completions_at old))
-        (λ x. (0 < (completions_at old).waiting) × (first_received 1 (completions_at old) ≡ x ∷ []) × (completions_at new ≡ taken_out 1 (completions_at old)))
+        (λ x. (0 < (completions_at old).waiting) × (first_received 1 (completions_at old) ≡ x ∷ []) × (completions_at new ≡ with_takes 1 (completions_at old)))
 
 -- no event is to be sent for a completion, and events are sent again
 abbrev pub without_events : CompletionWords → CompletionWords

@@ -2,7 +2,7 @@
 
 ghost use Rattle.std.specs.Prelude.{◌≡◌, ◌↔◌, ◌-◌, ◌<◌, ◌≤◌, ◌++◌, IsTrue, length, map, min, drop, Some};
 ghost use Rattle.std.specs.Iterator.{at_most};
-ghost use Rattle.ring_core.specs.Slots.{held_of, with_head, with_tail_seen, taken_out};
+ghost use Rattle.ring_core.specs.Slots.{held_of, with_head, with_tail_seen, with_takes};
 ghost use Rattle.ring_setup.specs.RingFlags.{shows_partner};
 ghost use Rattle.ring_setup.specs.declared.ring_flags.TheConstants.CompletionRingFlags.{EVENTFD_DISABLED};
 ghost use Rattle.uring_ring.specs.Queues.{completions_at, completion_words_at, completions_of_status, received_as, first_received, QueueSteps, with_events, without_events};
@@ -168,7 +168,7 @@ impl<C: EntryMarker> CompletionQueue<'_, C> {
     pub fn fill(&mut self, into: &mut [Option<Received<C>>]) -> usize
         ensures count { result ≡ min (completions_at self.old).waiting (length into.old) }
         ensures items { into.new ≡ map Some (first_received C.made_of result (completions_at self.old)) ++ drop result into.old }
-        ensures completions { completions_at self.new ≡ taken_out result (completions_at self.old) }
+        ensures completions { completions_at self.new ≡ with_takes result (completions_at self.old) }
         ensures words { completion_words_at self.new ≡ completion_words_at self.old }
         ensures same_reference { self.new.ring.ghost_name ≡ self.old.ring.ghost_name }
     {

@@ -44,7 +44,7 @@ pub(crate) struct CompletionRing {
 impl CompletionRing {
     ghost use Rattle.std.specs.Prelude.{◌↔◌, ◌<◌, ◌≤◌, ◌+◌, true, IfOk, IsOk, IfErr, OnOk, OnErr};
     ghost use Rattle.ring_core.specs.Positions.{is_ring_size};
-    ghost use Rattle.ring_core.specs.Slots.{opened, with_head_seen, with_post};
+    ghost use Rattle.ring_core.specs.Slots.{empty_ring, with_head_seen, with_post};
 
     pub(crate) fn new(
         alloc: Global,
@@ -52,7 +52,7 @@ impl CompletionRing {
         start: u32,
     ) -> Result<CompletionRing, AllocError>
         requires { is_ring_size capacity ≡ true }
-        ensures completions { IfOk result (λ ring. held_of ring.slots ≡ opened capacity start) }
+        ensures completions { IfOk result (λ ring. held_of ring.slots ≡ empty_ring capacity start) }
         ensures words { IfOk result (λ ring. ring.words ≡ record { flags = 0; overflow = 0 }) }
     {
         Ok(CompletionRing {

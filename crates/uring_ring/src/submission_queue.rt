@@ -11,18 +11,26 @@ use crate::submission_ring::SubmissionRing;
 use bitflags::Flags as _;
 use ring_core::{End, sync};
 use ring_setup::SubmissionFlags;
-use std::fmt;
+use std::io;
 use std::marker::PhantomData;
+use thiserror::Error;
 use uring_base::{Loan, Taken};
 use uring_large::squeue::{Entry, EntryMarker};
 
-/// The submission queue was full.
-#[derive(Clone, Copy, PartialEq, Eq, Debug)]
+/// The submission queue was full. The push can be made again once the partner has taken entries,
+/// and the queue has seen it.
+#[derive(Clone, Copy, PartialEq, Eq, Debug, Error)]
+#[error("submission queue is full")]
 pub struct PushError;
 
-impl fmt::Display for PushError {
-    fn fmt<W: fmt::Write>(&self, f: &mut fmt::Formatter<W>) -> fmt::Result {
-        f.write_str("submission queue is full")
+impl From<PushError> for io::Error {
+    ghost use Rattle.std.specs.IoError.{error_kind};
+    ghost use Rattle.std.specs.declared.io.ErrorKind.TheVariants.{WouldBlock};
+
+    ghost from_gives = { λ _ error. error_kind error ≡ WouldBlock };
+
+    fn from(_error: PushError) -> io::Error {
+        io::Error::from(io::ErrorKind::WouldBlock)
     }
 }
 

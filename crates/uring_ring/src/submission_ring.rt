@@ -29,7 +29,7 @@ impl SubmissionRing {
     ghost use Rattle.std.specs.Prelude.{◌↔◌, ◌<◌, ◌+◌, length, true, IfOk, IsSome, MatchOption};
     ghost use Rattle.std.specs.Option.{option_to_list};
     ghost use Rattle.ring_core.specs.Positions.{is_ring_size};
-    ghost use Rattle.ring_core.specs.Slots.{opened, with_tail_seen, TakesForGood};
+    ghost use Rattle.ring_core.specs.Slots.{empty_ring, with_tail_seen, TakesForGood};
 
     pub(crate) fn new(
         alloc: Global,
@@ -38,7 +38,7 @@ impl SubmissionRing {
     ) -> Result<SubmissionRing, AllocError>
         requires size { is_ring_size capacity ≡ true }
         requires small { capacity ≤ MAX_ENTRIES }
-        ensures entries { IfOk result (λ ring. held_of ring.slots ≡ opened capacity start) }
+        ensures entries { IfOk result (λ ring. held_of ring.slots ≡ empty_ring capacity start) }
         ensures words { IfOk result (λ ring. ring.words ≡ record { flags = 0; dropped = 0 }) }
     {
         Ok(SubmissionRing {

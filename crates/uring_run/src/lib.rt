@@ -1,4 +1,5 @@
 //! Jobs, run over a ring and a partner, and the texts and the streams around them, under one name.
+//! All of it stands in run_loop, uring_streams and uring_text; this crate only names it again.
 #![tactic(auto)]
 
 pub use run_loop::{Job, JobKind, Link, Outcome, Report, RunFault, run_jobs};

@@ -2,4 +2,4 @@ pub mod Bytes
 pub mod Inputs
 pub mod States
 pub mod Memory
-pub mod Told
+pub mod Faults

@@ -3,7 +3,7 @@
 ghost use Rattle.std.specs.Prelude.{◌≡◌, ◌≤◌, IfOk, IfErr};
 ghost use Rattle.uring_streams.specs.Inputs.{GaveFront, IsRefusedFor, IsWholeInput};
 ghost use Rattle.uring_streams.specs.declared.read.InputFault.TheVariants.{NoMemory, ReadFault};
-ghost use Rattle.uring_streams.specs.Told.{kind_of};
+ghost use Rattle.uring_streams.specs.Faults.{kind_of};
 ghost use Rattle.std.specs.IoError.{error_kind};
 
 use crate::traits::{Failed, Source};

@@ -56,7 +56,7 @@ fn each_call(rt: HostRuntime) -> Result<(), Fail> {
 #[test]
 fn longest_input(rt: HostRuntime) -> Result<(), Fail> {
     let alloc = rt.alloc();
-    for (len, fits) in [(16_777_216, true), (16_777_217, false)] {
+    for (len, fits) in [(INPUT_LIMIT, true), (INPUT_LIMIT + 1, false)] {
         let mut source = MemorySource::new(Buf::zeroed(alloc, len)?, Nums::new(alloc));
         match read_all(alloc, &mut source) {
             Ok(input) => assert!(rt; fits && input.len() == INPUT_LIMIT),
@@ -84,19 +84,17 @@ fn over_std(rt: HostRuntime) -> Result<(), Fail> {
     Ok(())
 }
 
-/// What each fault is called, and what it is as an error of the system.
+/// What each fault is called.
 #[test]
 fn faults(rt: HostRuntime) -> Result<(), Fail> {
     let alloc = rt.alloc();
-    for (fault, text, kind) in [
-        (InputFault::ReadFault, "read fault", ErrorKind::Other),
-        (InputFault::TooLong, "too long", ErrorKind::FileTooLarge),
-        (InputFault::NoMemory, "no memory", ErrorKind::OutOfMemory),
+    for (fault, text) in [
+        (InputFault::ReadFault, "read fault"),
+        (InputFault::TooLong, "too long"),
+        (InputFault::NoMemory, "no memory"),
     ] {
         assert_eq!(rt; fault.to_string(alloc)?.as_str(), text);
-        assert_eq!(rt; io::Error::from(fault).kind(), kind);
     }
     assert_eq!(rt; Failed.to_string(alloc)?.as_str(), "stream failed");
-    assert_eq!(rt; io::Error::from(Failed).kind(), ErrorKind::Other);
     Ok(())
 }

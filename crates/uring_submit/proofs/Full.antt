@@ -1,5 +1,5 @@
 -- A full turn by what was known before.
-use Rattle.std.proofs.Common.{◌≡◌, ℕ, ◌≤◌, min, length, List, Option, Some, None, sym, subst, arith}
+use Rattle.std.proofs.Common.{◌≡◌, ℕ, ◌≤◌, min, length, List, Option, Some, None, subst, arith}
 use Rattle.uring_model.specs.Moves.{Move}
 use Rattle.uring_model.specs.Schedule.{Machine, State, turn}
 use Rattle.ring_traits.specs.Lists.{Lists, room_of}

@@ -15,11 +15,11 @@ abbrev pub error_of : PartnerError → SubmitError
 error_of (partner.Fault errno) = Fault errno
 error_of partner.NoMemory = NoMemory
 
-abbrev pub is_fault : SubmitError → Bool
-is_fault Exists = false
-is_fault NotRegistered = false
-is_fault (Fault errno) = true
-is_fault NoMemory = false
+abbrev pub is_submit_fault : SubmitError → Bool
+is_submit_fault Exists = false
+is_submit_fault NotRegistered = false
+is_submit_fault (Fault errno) = true
+is_submit_fault NoMemory = false
 
 -- one that a partner answered
 abbrev pub is_of_partner : SubmitError → Bool
@@ -29,16 +29,16 @@ is_of_partner (Fault errno) = true
 is_of_partner NoMemory = true
 
 -- a fault has the error number that the partner keeps now, and any other answer leaves the one that it kept
-abbrev pub KeepsErrno : {T : Type 0} → Result T SubmitError → ℕ → ℕ → Type 0
-KeepsErrno (Ok x) before after = after ≡ before
-KeepsErrno (Err Exists) before after = after ≡ before
-KeepsErrno (Err NotRegistered) before after = after ≡ before
-KeepsErrno (Err (Fault errno)) before after = after ≡ errno
-KeepsErrno (Err NoMemory) before after = after ≡ before
+abbrev pub KeepsSubmitErrno : {T : Type 0} → Result T SubmitError → ℕ → ℕ → Type 0
+KeepsSubmitErrno (Ok x) before after = after ≡ before
+KeepsSubmitErrno (Err Exists) before after = after ≡ before
+KeepsSubmitErrno (Err NotRegistered) before after = after ≡ before
+KeepsSubmitErrno (Err (Fault errno)) before after = after ≡ errno
+KeepsSubmitErrno (Err NoMemory) before after = after ≡ before
 
 -- as an error of the system: the error number of Linux, or want of memory
-abbrev pub IsToldAs : SubmitError → Error → Type 0
-IsToldAs Exists e = raw_os_error e ≡ Some EEXIST
-IsToldAs NotRegistered e = raw_os_error e ≡ Some EINVAL
-IsToldAs (Fault errno) e = raw_os_error e ≡ Some (cast_signed w32 errno)
-IsToldAs NoMemory e = error_kind e ≡ OutOfMemory
+abbrev pub SubmitErrorIsToldAs : SubmitError → Error → Type 0
+SubmitErrorIsToldAs Exists e = raw_os_error e ≡ Some EEXIST
+SubmitErrorIsToldAs NotRegistered e = raw_os_error e ≡ Some EINVAL
+SubmitErrorIsToldAs (Fault errno) e = raw_os_error e ≡ Some (cast_signed w32 errno)
+SubmitErrorIsToldAs NoMemory e = error_kind e ≡ OutOfMemory

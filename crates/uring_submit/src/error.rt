@@ -3,6 +3,7 @@
 ghost use Rattle.std.specs.Prelude.{◌≡◌};
 
 use partner_traits::PartnerError;
+use std::alloc::AllocError;
 use std::io;
 use thiserror::Error;
 use uring_base::errno::{EEXIST, EINVAL};
@@ -23,6 +24,16 @@ pub enum SubmitError {
     NoMemory,
 }
 
+impl From<AllocError> for SubmitError {
+    ghost use Rattle.uring_submit.specs.declared.error.SubmitError.TheVariants.{NoMemory};
+
+    ghost from_gives = { λ _ error. error ≡ NoMemory };
+
+    fn from(_error: AllocError) -> SubmitError {
+        SubmitError::NoMemory
+    }
+}
+
 impl From<PartnerError> for SubmitError {
     ghost use Rattle.uring_submit.specs.Errors.{error_of};
 
@@ -37,9 +48,9 @@ impl From<PartnerError> for SubmitError {
 }
 
 impl From<SubmitError> for io::Error {
-    ghost use Rattle.uring_submit.specs.Errors.{IsToldAs};
+    ghost use Rattle.uring_submit.specs.Errors.{SubmitErrorIsToldAs};
 
-    ghost from_gives = { IsToldAs };
+    ghost from_gives = { SubmitErrorIsToldAs };
 
     fn from(error: SubmitError) -> io::Error {
         match error {

@@ -3,8 +3,8 @@
 ghost use Rattle.std.specs.Prelude.{◌≡◌, ◌^◌, ◌<◌, ℕ, true, IfErr, IfOk, IfSome, IsTrue, Contains, if◌then◌else◌, length};
 ghost use Rattle.uring_base.specs.Causes.{HasCause};
 ghost use Rattle.partner_traits.specs.Calls.{later_plan};
-ghost use Rattle.uring_submit.specs.Decisions.{decision, enters, enter_flags, has_events, gets_events};
-ghost use Rattle.uring_submit.specs.Errors.{KeepsErrno, is_fault, is_of_partner};
+ghost use Rattle.uring_submit.specs.Decisions.{decision, enters, has_events, gets_events};
+ghost use Rattle.uring_submit.specs.Errors.{KeepsSubmitErrno, is_of_partner, is_submit_fault};
 ghost use Rattle.uring_submit.specs.Submits.{params_of, Submits};
 
 use crate::error::SubmitError;
@@ -42,11 +42,11 @@ impl Submitter {
         requires { want < 2 ^ 32 }
         ensures submits { (published : ℕ) × IfSome (Q.lists side.old) (λ l. published ≡ length l.published)
             × Submits P.machine P.log P.state Q.lists Q.ready Q.space Q.moved (decision published (Q.flags_word side.old) (params_of self.old) want) published partner.old partner.new side.old side.new result }
-        ensures cause { HasCause is_fault (P.faults partner.old) (P.faults partner.new) result }
-        ensures planned { IfSome (P.state partner.old) (λ _. IfErr result (λ e. IsTrue (is_fault e) → Contains (P.plan partner.old) 1)) }
+        ensures cause { HasCause is_submit_fault (P.faults partner.old) (P.faults partner.new) result }
+        ensures planned { IfSome (P.state partner.old) (λ _. IfErr result (λ e. IsTrue (is_submit_fault e) → Contains (P.plan partner.old) 1)) }
         ensures counted { IfSome (P.state partner.old) (λ _. ¬ Contains (P.plan partner.old) 1 → P.faults partner.new ≡ P.faults partner.old) }
         ensures plan { P.plan partner.new ≡ (if enters (Q.flags_word side.old) (params_of self.old) want then later_plan (P.plan partner.old) else P.plan partner.old) }
-        ensures errno { KeepsErrno result (P.errno partner.old) (P.errno partner.new) }
+        ensures errno { KeepsSubmitErrno result (P.errno partner.old) (P.errno partner.new) }
         ensures errors { IfErr result (λ e. is_of_partner e ≡ true) }
         ensures fits { IfOk result (λ n. n < 2 ^ 32) }
         ensures same { self.new ≡ self.old }

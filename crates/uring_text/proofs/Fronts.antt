@@ -11,7 +11,7 @@ use Rattle.uring_text.specs.declared.script.Seed.{Seed}
 use Rattle.uring_model.specs.declared.jobs.Job.{Job}
 use Rattle.uring_text.specs.declared.script.Line.{Line}
 use Rattle.uring_text.specs.declared.script.Line.TheVariants as line
-use Rattle.uring_text.specs.Limits.{most_files, most_jobs, most_buffered}
+use Rattle.uring_text.specs.declared.limits.TheConstants.{MAX_FILES, MAX_JOBS, MAX_JOB_BYTES}
 use Rattle.uring_text.specs.Script.{◌>>=◌, line_says, lines_say, Told, files_of, choices_of, jobs_of, buffer_len, has_number, numbers_differ, is_within_limits, script_of}
 use Rattle.uring_text.proofs.Steps.{bind_some, some_is, limits, within_is, tell, checked}
 
@@ -68,10 +68,10 @@ front_within said more e =
     let files = files_append said more in
     let jobs = jobs_append said more in
     within_is (files_of said) (choices_of said) (jobs_of said) (
-      short (files_of said) (files_of more) most_files (rw files at w.0),
+      short (files_of said) (files_of more) MAX_FILES (rw files at w.0),
       differ_front (files_of said) (files_of more) (rw files at w.1),
-      short (jobs_of said) (jobs_of more) most_jobs (rw jobs at w.2),
-      less (jobs_of said) (jobs_of more) most_buffered (rw jobs at w.3),
+      short (jobs_of said) (jobs_of more) MAX_JOBS (rw jobs at w.2),
+      less (jobs_of said) (jobs_of more) MAX_JOB_BYTES (rw jobs at w.3),
     )
 
 there : (o : Option Told) → IsSome o → (told : Told) × (o ≡ Some told)

@@ -1,5 +1,5 @@
 -- The kind that is read of a job line is what its fields say.
-use Rattle.std.proofs.Common.{◌≡◌, ℕ, ◌^◌, ◌<◌, ◌≤◌, true, false, cond, List, [], ◌∷◌, replicate, Result, Ok, Err, Some, None, subst, refl, sym, ap, arith, inl, inr}
+use Rattle.std.proofs.Common.{◌≡◌, ℕ, ◌+◌, ◌^◌, ◌<◌, ◌≤◌, true, false, cond, List, [], ◌∷◌, replicate, Result, Ok, Err, Some, None, subst, refl, sym, ap, arith, inl, inr}
 use Rattle.std.specs.Prelude.{bytes_eq, codes, decimal}
 use Rattle.std.specs.Result.{result_ok}
 use Rattle.std.proofs.lemmas.List.{length-replicate}
@@ -7,7 +7,7 @@ use Rattle.hex.specs.Hex.{decode_of}
 use Rattle.hex.specs.declared.error.FromHexError.{FromHexError}
 use Rattle.uring_model.specs.declared.jobs.JobKind.{JobKind}
 use Rattle.uring_model.specs.declared.jobs.JobKind.TheVariants.{Nop, Read, Write, Fsync, Ftruncate, Cancel}
-use Rattle.uring_text.specs.Limits.{number_limit, offset_limit, len_limit, size_limit, job_limit}
+use Rattle.uring_text.specs.declared.limits.TheConstants.{MAX_READ_BYTES}
 use Rattle.uring_text.specs.Lines.{number_below, bytes_spelled}
 use Rattle.uring_text.specs.Script.{◌>>=◌, read_fields, write_fields, fsync_fields, truncate_fields, cancel_fields, job_fields}
 use Rattle.uring_text.specs.Grammar.{SpellsBytes, KindSaid}
@@ -51,8 +51,8 @@ bytes_again (b ∷ more) bytes (inr p) =
 abbrev Fielded : Type 0
 Fielded = JobKind × List (List ℕ)
 
-read_said : (f o l : List ℕ) (ms : List (List ℕ)) (n at size : ℕ) → (n < number_limit) × (f ≡ decimal n) → (at < offset_limit) × (o ≡ decimal at) → (size < len_limit) × (l ≡ decimal size) → KindSaid (Read n at (replicate size 0)) (codes "read" ∷ f ∷ o ∷ l ∷ ms) ms
-read_said f o l ms n at size p q r = rw (length-replicate {A = ℕ} size 0, p.1, q.1, r.1) (refl, p.0, q.0, r.0, refl)
+read_said : (f o l : List ℕ) (ms : List (List ℕ)) (n at size : ℕ) → (n < 2 ^ 32) × (f ≡ decimal n) → (at < 2 ^ 64) × (o ≡ decimal at) → (size < MAX_READ_BYTES + 1) × (l ≡ decimal size) → KindSaid (Read n at (replicate size 0)) (codes "read" ∷ f ∷ o ∷ l ∷ ms) ms
+read_said f o l ms n at size p q r = rw (length-replicate {A = ℕ} size 0, p.1, q.1, r.1) (refl, p.0, q.0, omega (arith, r.0), refl)
 
 read_found : (fields : List (List ℕ)) (said : Fielded) → read_fields fields ≡ Some said → KindSaid said.0 (codes "read" ∷ fields) said.1
 unfolding read_fields
@@ -60,9 +60,9 @@ read_found [] said e = absurd cc
 read_found (f ∷ []) said e = absurd cc
 read_found (f ∷ o ∷ []) said e = absurd cc
 read_found (f ∷ o ∷ l ∷ ms) said e =
-    bound (number_below number_limit f) (λ n. number_below offset_limit o >>= λ at. number_below len_limit l >>= λ size. there (Read n at (replicate size 0), ms)) said e (λ n en e1.
-    bound (number_below offset_limit o) (λ at. number_below len_limit l >>= λ size. there (Read n at (replicate size 0), ms)) said e1 (λ at ea e2.
-    bound (number_below len_limit l) (λ size. there (Read n at (replicate size 0), ms)) said e2 (λ size es e3.
+    bound (number_below (2 ^ 32) f) (λ n. number_below (2 ^ 64) o >>= λ at. number_below (MAX_READ_BYTES + 1) l >>= λ size. there (Read n at (replicate size 0), ms)) said e (λ n en e1.
+    bound (number_below (2 ^ 64) o) (λ at. number_below (MAX_READ_BYTES + 1) l >>= λ size. there (Read n at (replicate size 0), ms)) said e1 (λ at ea e2.
+    bound (number_below (MAX_READ_BYTES + 1) l) (λ size. there (Read n at (replicate size 0), ms)) said e2 (λ size es e3.
     subst (λ (p : Fielded). KindSaid p.0 (codes "read" ∷ f ∷ o ∷ l ∷ ms) p.1) (some_is (Read n at (replicate size 0), ms) said e3)
     (read_said f o l ms n at size (number_found _ f n en) (number_found _ o at ea) (number_found _ l size es)))))
 
@@ -72,11 +72,11 @@ write_found [] said e = absurd cc
 write_found (f ∷ []) said e = absurd cc
 write_found (f ∷ o ∷ []) said e = absurd cc
 write_found (f ∷ o ∷ h ∷ ms) said e =
-    bound (number_below number_limit f) (λ n. number_below offset_limit o >>= λ at. bytes_spelled h >>= λ bytes. there (Write n at bytes, ms)) said e (λ n en e1.
-    bound (number_below offset_limit o) (λ at. bytes_spelled h >>= λ bytes. there (Write n at bytes, ms)) said e1 (λ at ea e2.
+    bound (number_below (2 ^ 32) f) (λ n. number_below (2 ^ 64) o >>= λ at. bytes_spelled h >>= λ bytes. there (Write n at bytes, ms)) said e (λ n en e1.
+    bound (number_below (2 ^ 64) o) (λ at. bytes_spelled h >>= λ bytes. there (Write n at bytes, ms)) said e1 (λ at ea e2.
     bound (bytes_spelled h) (λ bytes. there (Write n at bytes, ms)) said e2 (λ bytes eb e3.
-    let p = number_found number_limit f n en in
-    let q = number_found offset_limit o at ea in
+    let p = number_found (2 ^ 32) f n en in
+    let q = number_found (2 ^ 64) o at ea in
     subst (λ (p : Fielded). KindSaid p.0 (codes "write" ∷ f ∷ o ∷ h ∷ ms) p.1) (some_is (Write n at bytes, ms) said e3)
     (h, rw (p.1, q.1) refl, p.0, q.0, bytes_found h bytes eb))))
 
@@ -84,8 +84,8 @@ fsync_found : (fields : List (List ℕ)) (said : Fielded) → fsync_fields field
 unfolding fsync_fields
 fsync_found [] said e = absurd cc
 fsync_found (f ∷ ms) said e =
-    bound (number_below number_limit f) (λ n. there (Fsync n, ms)) said e (λ n en e1.
-    let p = number_found number_limit f n en in
+    bound (number_below (2 ^ 32) f) (λ n. there (Fsync n, ms)) said e (λ n en e1.
+    let p = number_found (2 ^ 32) f n en in
     subst (λ (p : Fielded). KindSaid p.0 (codes "fsync" ∷ f ∷ ms) p.1) (some_is (Fsync n, ms) said e1) (rw p.1 refl, p.0))
 
 truncate_found : (fields : List (List ℕ)) (said : Fielded) → truncate_fields fields ≡ Some said → KindSaid said.0 (codes "truncate" ∷ fields) said.1
@@ -93,18 +93,18 @@ unfolding truncate_fields
 truncate_found [] said e = absurd cc
 truncate_found (f ∷ []) said e = absurd cc
 truncate_found (f ∷ l ∷ ms) said e =
-    bound (number_below number_limit f) (λ n. number_below size_limit l >>= λ size. there (Ftruncate n size, ms)) said e (λ n en e1.
-    bound (number_below size_limit l) (λ size. there (Ftruncate n size, ms)) said e1 (λ size es e2.
-    let p = number_found number_limit f n en in
-    let q = number_found size_limit l size es in
+    bound (number_below (2 ^ 32) f) (λ n. number_below (2 ^ 64) l >>= λ size. there (Ftruncate n size, ms)) said e (λ n en e1.
+    bound (number_below (2 ^ 64) l) (λ size. there (Ftruncate n size, ms)) said e1 (λ size es e2.
+    let p = number_found (2 ^ 32) f n en in
+    let q = number_found (2 ^ 64) l size es in
     subst (λ (p : Fielded). KindSaid p.0 (codes "truncate" ∷ f ∷ l ∷ ms) p.1) (some_is (Ftruncate n size, ms) said e2) (rw (p.1, q.1) refl, p.0, q.0)))
 
 cancel_found : (fields : List (List ℕ)) (said : Fielded) → cancel_fields fields ≡ Some said → KindSaid said.0 (codes "cancel" ∷ fields) said.1
 unfolding cancel_fields
 cancel_found [] said e = absurd cc
 cancel_found (j ∷ ms) said e =
-    bound (number_below job_limit j) (λ n. there (Cancel n, ms)) said e (λ n en e1.
-    let p = number_found job_limit j n en in
+    bound (number_below (2 ^ 64) j) (λ n. there (Cancel n, ms)) said e (λ n en e1.
+    let p = number_found (2 ^ 64) j n en in
     subst (λ (p : Fielded). KindSaid p.0 (codes "cancel" ∷ j ∷ ms) p.1) (some_is (Cancel n, ms) said e1) (rw p.1 refl, p.0))
 
 -- a word that was tested, and what the fields after it say

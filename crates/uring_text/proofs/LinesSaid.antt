@@ -1,5 +1,5 @@
 -- What is read of a line is what it says.
-use Rattle.std.proofs.Common.{◌≡◌, ℕ, Bool, true, false, cond, List, [], ◌∷◌, length, get_or, Some, subst, refl, sym, ap, arith, inl, inr}
+use Rattle.std.proofs.Common.{◌≡◌, ℕ, ◌+◌, ◌^◌, Bool, true, false, cond, List, [], ◌∷◌, length, get_or, Some, subst, refl, sym, ap, arith, inl, inr}
 use Rattle.std.specs.Prelude.{bytes_eq, codes, ◌==◌}
 use Rattle.std.proofs.lemmas.Bool.{eqb-true}
 use Rattle.uring_model.specs.declared.jobs.JobKind.{JobKind}
@@ -7,7 +7,7 @@ use Rattle.uring_model.specs.declared.jobs.JobKind.TheVariants.{Nop, Read, Write
 use Rattle.uring_model.specs.declared.jobs.Link.{Link}
 use Rattle.uring_text.specs.declared.script.Line.{Line}
 use Rattle.uring_text.specs.declared.script.Line.TheVariants as line
-use Rattle.uring_text.specs.Limits.{number_limit, choice_limit, offset_limit, len_limit, size_limit, job_limit}
+use Rattle.uring_text.specs.declared.limits.TheConstants.{MAX_READ_BYTES}
 use Rattle.uring_text.specs.Lines.{fields_of, number_below, bytes_spelled}
 use Rattle.uring_text.specs.Script.{◌>>=◌, file_line, choose_line, marks_of, read_fields, write_fields, fsync_fields, truncate_fields, cancel_fields, job_fields, job_line, worded_line, line_says}
 use Rattle.uring_text.specs.Grammar.{marks, KindSaid, FieldsSay, Says}
@@ -31,9 +31,9 @@ unfolding file_line
 file_found [] said e = absurd cc
 file_found (n ∷ []) said e = absurd cc
 file_found (n ∷ h ∷ []) said e =
-    bound (number_below number_limit n) (λ k. bytes_spelled h >>= λ bytes. there (line.File (record { number = k; bytes = bytes }))) said e (λ k ek e1.
+    bound (number_below (2 ^ 32) n) (λ k. bytes_spelled h >>= λ bytes. there (line.File (record { number = k; bytes = bytes }))) said e (λ k ek e1.
     bound (bytes_spelled h) (λ bytes. there (line.File (record { number = k; bytes = bytes }))) said e1 (λ bytes eb e2.
-    let p = number_found number_limit n k ek in
+    let p = number_found (2 ^ 32) n k ek in
     subst (λ (l : Line). FieldsSay (codes "file" ∷ n ∷ h ∷ []) l) (some_is (line.File (record { number = k; bytes = bytes })) said e2) (h, rw p.1 refl, p.0, bytes_found h bytes eb)))
 file_found (n ∷ h ∷ x ∷ more) said e = absurd cc
 
@@ -41,8 +41,8 @@ choose_found : (fields : List (List ℕ)) (said : Line) → choose_line fields �
 unfolding choose_line
 choose_found [] said e = absurd cc
 choose_found (c ∷ []) said e =
-    bound (number_below choice_limit c) (λ k. there (line.Choose k)) said e (λ k ek e1.
-    let p = number_found choice_limit c k ek in
+    bound (number_below (2 ^ 32) c) (λ k. there (line.Choose k)) said e (λ k ek e1.
+    let p = number_found (2 ^ 32) c k ek in
     subst (λ (l : Line). FieldsSay (codes "choose" ∷ c ∷ []) l) (some_is (line.Choose k) said e1) (rw p.1 refl, p.0))
 choose_found (c ∷ x ∷ more) said e = absurd cc
 
@@ -81,17 +81,17 @@ line_found (b ∷ more) said e =
 job_again : (kind : JobKind) (drain : Bool) (link : Link) (fields : List (List ℕ)) → KindSaid kind fields (marks drain link) → worded_line fields ≡ Some (line.Job (record { kind = kind; drain = drain; link = link }))
 unfolding worded_line job_line job_fields read_fields write_fields fsync_fields truncate_fields cancel_fields
 job_again Nop drain link fields h = rw (h, marks_again drain link) refl
-job_again (Read n at buf) drain link fields h = rw h.0 (rw (number_is number_limit n (omega arith) h.1, number_is offset_limit at (omega arith) h.2, number_is len_limit (length buf) (omega arith) h.3, marks_again drain link, ← h.4) refl)
-job_again (Write n at buf) drain link fields h = rw h.1 (rw (number_is number_limit n (omega arith) h.2, number_is offset_limit at (omega arith) h.3, bytes_again h.0 buf h.4, marks_again drain link) refl)
-job_again (Fsync n) drain link fields h = rw h.0 (rw (number_is number_limit n (omega arith) h.1, marks_again drain link) refl)
-job_again (Ftruncate n len) drain link fields h = rw h.0 (rw (number_is number_limit n (omega arith) h.1, number_is size_limit len (omega arith) h.2, marks_again drain link) refl)
-job_again (Cancel job) drain link fields h = rw h.0 (rw (number_is job_limit job (omega arith) h.1, marks_again drain link) refl)
+job_again (Read n at buf) drain link fields h = rw h.0 (rw (number_is (2 ^ 32) n (omega arith) h.1, number_is (2 ^ 64) at (omega arith) h.2, number_is (MAX_READ_BYTES + 1) (length buf) (omega arith) (omega (arith, h.3)), marks_again drain link, ← h.4) refl)
+job_again (Write n at buf) drain link fields h = rw h.1 (rw (number_is (2 ^ 32) n (omega arith) h.2, number_is (2 ^ 64) at (omega arith) h.3, bytes_again h.0 buf h.4, marks_again drain link) refl)
+job_again (Fsync n) drain link fields h = rw h.0 (rw (number_is (2 ^ 32) n (omega arith) h.1, marks_again drain link) refl)
+job_again (Ftruncate n len) drain link fields h = rw h.0 (rw (number_is (2 ^ 32) n (omega arith) h.1, number_is (2 ^ 64) len (omega arith) h.2, marks_again drain link) refl)
+job_again (Cancel job) drain link fields h = rw h.0 (rw (number_is (2 ^ 64) job (omega arith) h.1, marks_again drain link) refl)
 
 fields_again : (fields : List (List ℕ)) (said : Line) → FieldsSay fields said → worded_line fields ≡ Some said
 unfolding worded_line file_line choose_line
 fields_again fields line.Blank h = absurd h
-fields_again fields (line.File seed) h = rw h.1 (rw (number_is number_limit seed.number (omega arith) h.2, bytes_again h.0 seed.bytes h.3) refl)
-fields_again fields (line.Choose c) h = rw h.0 (rw (number_is choice_limit c (omega arith) h.1) refl)
+fields_again fields (line.File seed) h = rw h.1 (rw (number_is (2 ^ 32) seed.number (omega arith) h.2, bytes_again h.0 seed.bytes h.3) refl)
+fields_again fields (line.Choose c) h = rw h.0 (rw (number_is (2 ^ 32) c (omega arith) h.1) refl)
 fields_again fields (line.Job job) h = job_again job.kind job.drain job.link fields h
 
 -- the first byte of the first field

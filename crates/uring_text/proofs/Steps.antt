@@ -11,7 +11,7 @@ use Rattle.uring_text.specs.declared.script.Seed.{Seed}
 use Rattle.uring_model.specs.declared.jobs.Job.{Job}
 use Rattle.uring_text.specs.declared.script.Line.{Line}
 use Rattle.uring_text.specs.declared.script.Line.TheVariants as line
-use Rattle.uring_text.specs.Limits.{most_files, most_jobs, most_buffered}
+use Rattle.uring_text.specs.declared.limits.TheConstants.{MAX_FILES, MAX_JOBS, MAX_JOB_BYTES}
 use Rattle.uring_text.specs.Script.{◌>>=◌, line_says, lines_say, Told, files_of, choices_of, jobs_of, buffer_len, has_number, numbers_differ, is_within_limits, script_of}
 use Rattle.uring_text.specs.Adding.{adds}
 
@@ -90,27 +90,27 @@ one_more xs x most = ap (λ (k : ℕ). leb k most) (length-append xs (x ∷ []) 
 
 -- the limits, one by one
 abbrev pub Within : List Seed → List Job → Type 0
-Within files jobs = (leb (length files) most_files ≡ true) × (numbers_differ files ≡ true) × (leb (length jobs) most_jobs ≡ true) × (leb (sum_by buffer_len jobs) most_buffered ≡ true)
+Within files jobs = (leb (length files) MAX_FILES ≡ true) × (numbers_differ files ≡ true) × (leb (length jobs) MAX_JOBS ≡ true) × (leb (sum_by buffer_len jobs) MAX_JOB_BYTES ≡ true)
 
 pub limits : (files : List Seed) (choices : List ℕ) (jobs : List Job) → is_within_limits (record { files = files; choices = choices; jobs = jobs }) ≡ true → Within files jobs
 limits files choices jobs e =
-    let a = and_parts (leb (length files) most_files && numbers_differ files && leb (length jobs) most_jobs) (leb (sum_by buffer_len jobs) most_buffered) e in
-    let b = and_parts (leb (length files) most_files && numbers_differ files) (leb (length jobs) most_jobs) a.0 in
-    let c = and_parts (leb (length files) most_files) (numbers_differ files) b.0 in
+    let a = and_parts (leb (length files) MAX_FILES && numbers_differ files && leb (length jobs) MAX_JOBS) (leb (sum_by buffer_len jobs) MAX_JOB_BYTES) e in
+    let b = and_parts (leb (length files) MAX_FILES && numbers_differ files) (leb (length jobs) MAX_JOBS) a.0 in
+    let c = and_parts (leb (length files) MAX_FILES) (numbers_differ files) b.0 in
     (c.0, c.1, b.1, a.1)
 
 pub within_is : (files : List Seed) (choices : List ℕ) (jobs : List Job) → Within files jobs → is_within_limits (record { files = files; choices = choices; jobs = jobs }) ≡ true
 within_is files choices jobs w = rw (w.0, w.1, w.2, w.3) refl
 
-within_file : (files : List Seed) (choices : List ℕ) (jobs : List Job) (s : Seed) → is_within_limits (record { files = files; choices = choices; jobs = jobs }) ≡ true → is_within_limits (record { files = files ++ s ∷ []; choices = choices; jobs = jobs }) ≡ (nat_lt (length files) most_files && not (has_number s.number files))
+within_file : (files : List Seed) (choices : List ℕ) (jobs : List Job) (s : Seed) → is_within_limits (record { files = files; choices = choices; jobs = jobs }) ≡ true → is_within_limits (record { files = files ++ s ∷ []; choices = choices; jobs = jobs }) ≡ (nat_lt (length files) MAX_FILES && not (has_number s.number files))
 within_file files choices jobs s e =
     let w = limits files choices jobs e in
-    rw (one_more files s most_files, differ_push files s, w.1, w.2, w.3) (and_yes _ ∙ and_yes _)
+    rw (one_more files s MAX_FILES, differ_push files s, w.1, w.2, w.3) (and_yes _ ∙ and_yes _)
 
-within_job : (files : List Seed) (choices : List ℕ) (jobs : List Job) (j : Job) → is_within_limits (record { files = files; choices = choices; jobs = jobs }) ≡ true → is_within_limits (record { files = files; choices = choices; jobs = jobs ++ j ∷ [] }) ≡ (nat_lt (length jobs) most_jobs && nat_le (sum_by buffer_len jobs + buffer_len j) most_buffered)
+within_job : (files : List Seed) (choices : List ℕ) (jobs : List Job) (j : Job) → is_within_limits (record { files = files; choices = choices; jobs = jobs }) ≡ true → is_within_limits (record { files = files; choices = choices; jobs = jobs ++ j ∷ [] }) ≡ (nat_lt (length jobs) MAX_JOBS && nat_le (sum_by buffer_len jobs + buffer_len j) MAX_JOB_BYTES)
 within_job files choices jobs j e =
     let w = limits files choices jobs e in
-    rw (one_more jobs j most_jobs, sum_by_push buffer_len jobs j, w.0, w.1) refl
+    rw (one_more jobs j MAX_JOBS, sum_by_push buffer_len jobs j, w.0, w.1) refl
 
 -- what a list of lines tells, within the limits
 abbrev pub tell : List Line → Told

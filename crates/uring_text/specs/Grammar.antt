@@ -1,5 +1,5 @@
 -- A script by what its lines say, apart from any reading.
-use Rattle.std.specs.Prelude.{ℕ, ◌<◌, ◌≤◌, ◌≡◌, ◌⊎◌, List, [], ◌∷◌, length, replicate, sum_by, Bool, true, false, Ok, codes, decimal}
+use Rattle.std.specs.Prelude.{ℕ, ◌^◌, ◌<◌, ◌≤◌, ◌≡◌, ◌⊎◌, List, [], ◌∷◌, length, replicate, sum_by, Bool, true, false, Ok, codes, decimal}
 use Rattle.hex.specs.Hex.{decode_of}
 use Rattle.uring_model.specs.declared.jobs.JobKind.{JobKind}
 use Rattle.uring_model.specs.declared.jobs.JobKind.TheVariants.{Nop, Read, Write, Fsync, Ftruncate, Cancel}
@@ -7,8 +7,8 @@ use Rattle.uring_model.specs.declared.jobs.Link.{Link}
 use Rattle.uring_model.specs.declared.jobs.Link.TheVariants.{Free, Soft, Hard}
 use Rattle.uring_text.specs.declared.script.Line.{Line}
 use Rattle.uring_text.specs.declared.script.Line.TheVariants as line
-use Rattle.uring_text.specs.Limits.{number_limit, choice_limit, offset_limit, len_limit, size_limit, job_limit, most_files, most_jobs, most_buffered}
-use Rattle.uring_text.specs.Lines.{fields_of}
+use Rattle.uring_text.specs.declared.limits.TheConstants.{MAX_FILES, MAX_JOBS, MAX_JOB_BYTES, MAX_READ_BYTES}
+use Rattle.uring_text.specs.Lines.{number_sign, fields_of}
 use Rattle.uring_text.specs.Script.{Told, files_of, choices_of, jobs_of, buffer_len, numbers_differ}
 
 -- pairs of hex digits of either case, or a dash for no bytes
@@ -29,23 +29,23 @@ marks false link = link_text link
 -- the fields of a kind of job, with these marks after them
 abbrev pub KindSaid : JobKind → List (List ℕ) → List (List ℕ) → Type 0
 KindSaid Nop fields end = fields ≡ codes "nop" ∷ end
-KindSaid (Read n at buf) fields end = (fields ≡ codes "read" ∷ decimal n ∷ decimal at ∷ decimal (length buf) ∷ end) × (n < number_limit) × (at < offset_limit) × (length buf < len_limit) × (buf ≡ replicate (length buf) 0)
-KindSaid (Write n at buf) fields end = (hex : List ℕ) × (fields ≡ codes "write" ∷ decimal n ∷ decimal at ∷ hex ∷ end) × (n < number_limit) × (at < offset_limit) × SpellsBytes hex buf
-KindSaid (Fsync n) fields end = (fields ≡ codes "fsync" ∷ decimal n ∷ end) × (n < number_limit)
-KindSaid (Ftruncate n len) fields end = (fields ≡ codes "truncate" ∷ decimal n ∷ decimal len ∷ end) × (n < number_limit) × (len < size_limit)
-KindSaid (Cancel job) fields end = (fields ≡ codes "cancel" ∷ decimal job ∷ end) × (job < job_limit)
+KindSaid (Read n at buf) fields end = (fields ≡ codes "read" ∷ decimal n ∷ decimal at ∷ decimal (length buf) ∷ end) × (n < 2 ^ 32) × (at < 2 ^ 64) × (length buf ≤ MAX_READ_BYTES) × (buf ≡ replicate (length buf) 0)
+KindSaid (Write n at buf) fields end = (hex : List ℕ) × (fields ≡ codes "write" ∷ decimal n ∷ decimal at ∷ hex ∷ end) × (n < 2 ^ 32) × (at < 2 ^ 64) × SpellsBytes hex buf
+KindSaid (Fsync n) fields end = (fields ≡ codes "fsync" ∷ decimal n ∷ end) × (n < 2 ^ 32)
+KindSaid (Ftruncate n len) fields end = (fields ≡ codes "truncate" ∷ decimal n ∷ decimal len ∷ end) × (n < 2 ^ 32) × (len < 2 ^ 64)
+KindSaid (Cancel job) fields end = (fields ≡ codes "cancel" ∷ decimal job ∷ end) × (job < 2 ^ 64)
 
 -- the fields of a line that says something
 abbrev pub FieldsSay : List (List ℕ) → Line → Type 0
 FieldsSay fields line.Blank = ⊥
-FieldsSay fields (line.File seed) = (hex : List ℕ) × (fields ≡ codes "file" ∷ decimal seed.number ∷ hex ∷ []) × (seed.number < number_limit) × SpellsBytes hex seed.bytes
-FieldsSay fields (line.Choose c) = (fields ≡ codes "choose" ∷ decimal c ∷ []) × (c < choice_limit)
+FieldsSay fields (line.File seed) = (hex : List ℕ) × (fields ≡ codes "file" ∷ decimal seed.number ∷ hex ∷ []) × (seed.number < 2 ^ 32) × SpellsBytes hex seed.bytes
+FieldsSay fields (line.Choose c) = (fields ≡ codes "choose" ∷ decimal c ∷ []) × (c < 2 ^ 32)
 FieldsSay fields (line.Job job) = KindSaid job.kind fields (marks job.drain job.link)
 
--- an empty line and a comment (35 is `#`) say nothing to do
+-- an empty line and a comment say nothing to do
 abbrev pub Says : List ℕ → Line → Type 0
 Says [] said = said ≡ line.Blank
-Says (b ∷ more) line.Blank = b ≡ 35
+Says (b ∷ more) line.Blank = b ≡ number_sign
 Says (b ∷ more) (line.File seed) = FieldsSay (fields_of (b ∷ more)) (line.File seed)
 Says (b ∷ more) (line.Choose c) = FieldsSay (fields_of (b ∷ more)) (line.Choose c)
 Says (b ∷ more) (line.Job job) = FieldsSay (fields_of (b ∷ more)) (line.Job job)
@@ -63,7 +63,7 @@ pub record IsScript (lines : List (List ℕ)) (told : Told) : Type 0 where
   pub files : told.files ≡ files_of said
   pub choices : told.choices ≡ choices_of said
   pub jobs : told.jobs ≡ jobs_of said
-  pub few_files : length told.files ≤ most_files
+  pub few_files : length told.files ≤ MAX_FILES
   pub differ : numbers_differ told.files ≡ true
-  pub few_jobs : length told.jobs ≤ most_jobs
-  pub few_bytes : sum_by buffer_len told.jobs ≤ most_buffered
+  pub few_jobs : length told.jobs ≤ MAX_JOBS
+  pub few_bytes : sum_by buffer_len told.jobs ≤ MAX_JOB_BYTES

@@ -1,7 +1,7 @@
 -- Laws of the definitions of a script.
 use Rattle.std.specs.Prelude.{ℕ, ◌<◌, ◌≤◌, ◌^◌, ◌≡◌, ◌≢◌, ◌↔◌, List, [], ◌∷◌, ◌++◌, All, Some, IsSome, decimal}
 use Rattle.uring_text.specs.declared.script.Line.{Line}
-use Rattle.uring_text.specs.Lines.{lines_of, fields_of, number_below}
+use Rattle.uring_text.specs.Lines.{line_feed, space, lines_of, fields_of, number_below}
 use Rattle.uring_text.specs.Script.{Told, line_says, script_of}
 use Rattle.uring_text.specs.Grammar.{Says, IsScript}
 
@@ -17,13 +17,13 @@ ScriptsAreAsSaid = (lines : List (List ℕ)) (told : Told) → (script_of lines 
 abbrev pub FrontsAreScripts : Type 0
 FrontsAreScripts = (front rest : List (List ℕ)) → IsSome (script_of (front ++ rest)) → IsSome (script_of front)
 
--- a line feed (10) ends a line, and the last line may lack it
+-- a line feed ends a line, and the last line may lack it
 pub record LinesEndAtFeeds : Type 0 where
   pub none : lines_of [] ≡ []
-  pub last : (line : List ℕ) → line ≢ [] → All (λ b. b ≢ 10) line → lines_of line ≡ line ∷ []
-  pub next : (line rest : List ℕ) → All (λ b. b ≢ 10) line → lines_of (line ++ 10 ∷ rest) ≡ line ∷ lines_of rest
+  pub last : (line : List ℕ) → line ≢ [] → All (λ b. b ≢ line_feed) line → lines_of line ≡ line ∷ []
+  pub next : (line rest : List ℕ) → All (λ b. b ≢ line_feed) line → lines_of (line ++ line_feed ∷ rest) ≡ line ∷ lines_of rest
 
--- one space (32) stands between two fields
+-- one space stands between two fields
 pub record FieldsEndAtSpaces : Type 0 where
-  pub last : (field : List ℕ) → All (λ b. b ≢ 32) field → fields_of field ≡ field ∷ []
-  pub next : (field rest : List ℕ) → All (λ b. b ≢ 32) field → fields_of (field ++ 32 ∷ rest) ≡ field ∷ fields_of rest
+  pub last : (field : List ℕ) → All (λ b. b ≢ space) field → fields_of field ≡ field ∷ []
+  pub next : (field rest : List ℕ) → All (λ b. b ≢ space) field → fields_of (field ++ space ∷ rest) ≡ field ∷ fields_of rest

@@ -1,5 +1,5 @@
 -- A script: what each line says, and what all of them say together.
-use Rattle.std.specs.Prelude.{ℕ, ◌<◌, ◌≡◌, List, [], ◌∷◌, length, take, replicate, sum_by, Bool, true, false, not, Option, Some, None, IsSome, bytes_eq, option_map, Vec, codes, nat_le, ◌==◌, ◌&&◌, if◌then◌else◌}
+use Rattle.std.specs.Prelude.{ℕ, ◌+◌, ◌^◌, ◌<◌, ◌≡◌, List, [], ◌∷◌, length, take, replicate, sum_by, Bool, true, false, not, Option, Some, None, IsSome, bytes_eq, option_map, Vec, codes, nat_le, ◌==◌, ◌&&◌, if◌then◌else◌}
 use Rattle.std.specs.List.{list_any}
 use Rattle.std.specs.declared.alloc.Global.{Global}
 use Rattle.uring_model.specs.declared.jobs.Job.{Job}
@@ -14,8 +14,8 @@ use Rattle.uring_text.specs.declared.script.Line.TheVariants as line
 use Rattle.uring_text.specs.declared.script.Script.{Script}
 use Rattle.uring_text.specs.declared.script.ScriptFault.{ScriptFault}
 use Rattle.uring_text.specs.declared.script.ScriptFault.TheVariants as fault
-use Rattle.uring_text.specs.Limits.{number_limit, choice_limit, offset_limit, len_limit, size_limit, job_limit, most_files, most_jobs, most_buffered}
-use Rattle.uring_text.specs.Lines.{fields_of, number_below, bytes_spelled}
+use Rattle.uring_text.specs.declared.limits.TheConstants.{MAX_FILES, MAX_JOBS, MAX_JOB_BYTES, MAX_READ_BYTES}
+use Rattle.uring_text.specs.Lines.{number_sign, fields_of, number_below, bytes_spelled}
 
 infixl 10 ◌>>=◌
 abbrev pub ◌>>=◌ : {A B : Type 0} → Option A → (A → Option B) → Option B
@@ -27,7 +27,7 @@ None >>= f = None
 -- `file N HEX`
 unfoldable pub file_line : List (List ℕ) → Option Line
 file_line (number ∷ hex ∷ []) = do
-  n ← number_below number_limit number
+  n ← number_below (2 ^ 32) number
   bytes ← bytes_spelled hex
   Some (line.File (record { number = n; bytes = bytes }))
 file_line _ = None
@@ -35,7 +35,7 @@ file_line _ = None
 -- `choose C`
 unfoldable pub choose_line : List (List ℕ) → Option Line
 choose_line (choice ∷ []) = do
-  c ← number_below choice_limit choice
+  c ← number_below (2 ^ 32) choice
   Some (line.Choose c)
 choose_line _ = None
 
@@ -62,17 +62,17 @@ KindAndMarks = Option (JobKind × List (List ℕ))
 -- `read N OFFSET LEN`: a buffer of LEN zeros
 unfoldable pub read_fields : List (List ℕ) → KindAndMarks
 read_fields (file ∷ offset ∷ len ∷ marks) = do
-  n ← number_below number_limit file
-  at ← number_below offset_limit offset
-  size ← number_below len_limit len
+  n ← number_below (2 ^ 32) file
+  at ← number_below (2 ^ 64) offset
+  size ← number_below (MAX_READ_BYTES + 1) len
   Some (Read n at (replicate size 0), marks)
 read_fields _ = None
 
 -- `write N OFFSET HEX`
 unfoldable pub write_fields : List (List ℕ) → KindAndMarks
 write_fields (file ∷ offset ∷ hex ∷ marks) = do
-  n ← number_below number_limit file
-  at ← number_below offset_limit offset
+  n ← number_below (2 ^ 32) file
+  at ← number_below (2 ^ 64) offset
   bytes ← bytes_spelled hex
   Some (Write n at bytes, marks)
 write_fields _ = None
@@ -80,22 +80,22 @@ write_fields _ = None
 -- `fsync N`
 unfoldable pub fsync_fields : List (List ℕ) → KindAndMarks
 fsync_fields (file ∷ marks) = do
-  n ← number_below number_limit file
+  n ← number_below (2 ^ 32) file
   Some (Fsync n, marks)
 fsync_fields _ = None
 
 -- `truncate N LEN`
 unfoldable pub truncate_fields : List (List ℕ) → KindAndMarks
 truncate_fields (file ∷ len ∷ marks) = do
-  n ← number_below number_limit file
-  size ← number_below size_limit len
+  n ← number_below (2 ^ 32) file
+  size ← number_below (2 ^ 64) len
   Some (Ftruncate n size, marks)
 truncate_fields _ = None
 
 -- `cancel J`
 unfoldable pub cancel_fields : List (List ℕ) → KindAndMarks
 cancel_fields (job ∷ marks) = do
-  j ← number_below job_limit job
+  j ← number_below (2 ^ 64) job
   Some (Cancel j, marks)
 cancel_fields _ = None
 
@@ -122,10 +122,10 @@ worded_line (word ∷ fields) =
     else if bytes_eq word (codes "choose") then choose_line fields
     else job_line word fields
 
--- what a line says. An empty line and a comment (35 is `#`) say nothing to do.
+-- what a line says. An empty line and a comment say nothing to do.
 unfoldable pub line_says : List ℕ → Option Line
 line_says [] = Some line.Blank
-line_says (b ∷ more) = if b == 35 then Some line.Blank else worded_line (fields_of (b ∷ more))
+line_says (b ∷ more) = if b == number_sign then Some line.Blank else worded_line (fields_of (b ∷ more))
 
 -- ---- all lines
 
@@ -178,8 +178,8 @@ numbers_differ (seed ∷ seeds) = not (has_number seed.number seeds) && numbers_
 
 abbrev pub is_within_limits : Told → Bool
 is_within_limits told =
-    nat_le (length told.files) most_files && numbers_differ told.files
-    && nat_le (length told.jobs) most_jobs && nat_le (sum_by buffer_len told.jobs) most_buffered
+    nat_le (length told.files) MAX_FILES && numbers_differ told.files
+    && nat_le (length told.jobs) MAX_JOBS && nat_le (sum_by buffer_len told.jobs) MAX_JOB_BYTES
 
 -- what these lines tell, if they are a script
 unfoldable pub script_of : List (List ℕ) → Option Told

@@ -19,19 +19,19 @@ code_of ends.PartnerFault = 10
 code_of ends.WriteFault = 11
 code_of ends.NoMemory = 12
 
-abbrev pub words_of : Status → List ℕ
-words_of ends.Done = []
-words_of ends.Usage = codes "usage"
-words_of ends.ReadFault = codes "read fault"
-words_of ends.TooLong = codes "too long"
-words_of (ends.Script line) = codes "script line " ++ decimal line
-words_of ends.BadSize = codes "bad size"
-words_of (ends.BadJob job) = codes "bad job " ++ decimal job
-words_of (ends.Stranger number) = codes "stranger " ++ decimal number
-words_of ends.Stalled = codes "stalled"
-words_of ends.PartnerFault = codes "partner fault"
-words_of ends.WriteFault = codes "write fault"
-words_of ends.NoMemory = codes "no memory"
+abbrev pub status_words : Status → List ℕ
+status_words ends.Done = []
+status_words ends.Usage = codes "usage"
+status_words ends.ReadFault = codes "read fault"
+status_words ends.TooLong = codes "too long"
+status_words (ends.Script line) = codes "script line " ++ decimal line
+status_words ends.BadSize = codes "bad size"
+status_words (ends.BadJob job) = codes "bad job " ++ decimal job
+status_words (ends.Stranger number) = codes "stranger " ++ decimal number
+status_words ends.Stalled = codes "stalled"
+status_words ends.PartnerFault = codes "partner fault"
+status_words ends.WriteFault = codes "write fault"
+status_words ends.NoMemory = codes "no memory"
 
 -- the status of a run that was given up
 abbrev pub status_of : RunFault → Status

@@ -32,8 +32,8 @@ pub fn fields_of(alloc: Global, line: &[u8]) -> Result<Vec<&[u8]>, AllocError>
     line.split(|b| *b == b' ').collect(alloc)
 }
 
-/// The number whose decimal text this is.
-fn number(text: &[u8]) -> Option<u64>
+/// The number of 64 bits whose decimal text this is.
+pub fn u64_of(text: &[u8]) -> Option<u64>
     ensures { result ≡ number_below (2 ^ 64) text.now }
 {
     if text.is_empty() {
@@ -57,8 +57,16 @@ pub fn number_to(text: &[u8], most: u64) -> Option<u64>
     ensures value { result ≡ number_below (most + 1) text.now }
     ensures small { IfSome result (λ n. n ≤ most) }
 {
-    let value = number(text)?;
+    let value = u64_of(text)?;
     if value <= most { Some(value) } else { None }
+}
+
+/// The number of 32 bits whose decimal text this is.
+pub fn u32_of(text: &[u8]) -> Option<u32>
+    ensures { result ≡ number_below (2 ^ 32) text.now }
+{
+    let value = number_to(text, u32::MAX as u64)?;
+    Some(value as u32)
 }
 
 /// The bytes that pairs of hex digits of either case stand for; none for a dash.

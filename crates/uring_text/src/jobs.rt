@@ -3,8 +3,8 @@
 ghost use Rattle.std.specs.Prelude.{◌≡◌, map, option_map, IfOk};
 ghost use Rattle.uring_text.specs.Script.{read_fields, write_fields, fsync_fields, truncate_fields, cancel_fields, job_fields};
 
-use crate::fields::{bytes_of, number_to};
-use crate::limits::{MOST_JOB, MOST_LEN, MOST_NUMBER, MOST_OFFSET, MOST_SIZE};
+use crate::fields::{bytes_of, number_to, u32_of, u64_of};
+use crate::limits::MAX_READ_BYTES;
 use std::alloc::{AllocError, Global};
 use uring_base::Buf;
 use uring_model::JobKind;
@@ -20,21 +20,17 @@ fn read_fields<'a>(
     let [file, offset, len, marks @ ..] = fields else {
         return Ok(None);
     };
-    let Some(file) = number_to(file, MOST_NUMBER) else {
+    let Some(file) = u32_of(file) else {
         return Ok(None);
     };
-    let Some(offset) = number_to(offset, MOST_OFFSET) else {
+    let Some(offset) = u64_of(offset) else {
         return Ok(None);
     };
-    let Some(len) = number_to(len, MOST_LEN) else {
+    let Some(len) = number_to(len, MAX_READ_BYTES) else {
         return Ok(None);
     };
-    let kind = JobKind::Read {
-        file: file as u32,
-        offset,
-        buf: Buf::zeroed(alloc, len as usize)?,
-    };
-    Ok(Some((kind, marks)))
+    let buf = Buf::zeroed(alloc, len as usize)?;
+    Ok(Some((JobKind::Read { file, offset, buf }, marks)))
 }
 
 /// `write N OFFSET HEX`
@@ -48,21 +44,16 @@ fn write_fields<'a>(
     let [file, offset, hex, marks @ ..] = fields else {
         return Ok(None);
     };
-    let Some(file) = number_to(file, MOST_NUMBER) else {
+    let Some(file) = u32_of(file) else {
         return Ok(None);
     };
-    let Some(offset) = number_to(offset, MOST_OFFSET) else {
+    let Some(offset) = u64_of(offset) else {
         return Ok(None);
     };
     let Some(buf) = bytes_of(alloc, hex)? else {
         return Ok(None);
     };
-    let kind = JobKind::Write {
-        file: file as u32,
-        offset,
-        buf,
-    };
-    Ok(Some((kind, marks)))
+    Ok(Some((JobKind::Write { file, offset, buf }, marks)))
 }
 
 /// `fsync N`
@@ -73,8 +64,8 @@ fn fsync_fields<'a>(fields: &'a [&'a [u8]]) -> Option<(JobKind, &'a [&'a [u8]])>
     let [file, marks @ ..] = fields else {
         return None;
     };
-    let file = number_to(file, MOST_NUMBER)?;
-    Some((JobKind::Fsync { file: file as u32 }, marks))
+    let file = u32_of(file)?;
+    Some((JobKind::Fsync { file }, marks))
 }
 
 /// `truncate N LEN`
@@ -85,13 +76,9 @@ fn truncate_fields<'a>(fields: &'a [&'a [u8]]) -> Option<(JobKind, &'a [&'a [u8]
     let [file, len, marks @ ..] = fields else {
         return None;
     };
-    let file = number_to(file, MOST_NUMBER)?;
-    let len = number_to(len, MOST_SIZE)?;
-    let kind = JobKind::Ftruncate {
-        file: file as u32,
-        len,
-    };
-    Some((kind, marks))
+    let file = u32_of(file)?;
+    let len = u64_of(len)?;
+    Some((JobKind::Ftruncate { file, len }, marks))
 }
 
 /// `cancel J`
@@ -102,7 +89,7 @@ fn cancel_fields<'a>(fields: &'a [&'a [u8]]) -> Option<(JobKind, &'a [&'a [u8]])
     let [job, marks @ ..] = fields else {
         return None;
     };
-    let job = number_to(job, MOST_JOB)?;
+    let job = u64_of(job)?;
     Some((JobKind::Cancel { job }, marks))
 }
 

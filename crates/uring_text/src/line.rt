@@ -3,9 +3,8 @@
 ghost use Rattle.std.specs.Prelude.{◌≡◌, map, IfOk};
 ghost use Rattle.uring_text.specs.Script.{file_line, choose_line, job_line, worded_line, line_says};
 
-use crate::fields::{bytes_of, fields_of, number_to};
+use crate::fields::{bytes_of, fields_of, u32_of};
 use crate::jobs::job_fields;
-use crate::limits::{MOST_CHOICE, MOST_NUMBER};
 use crate::marks::marks_of;
 use crate::script::{Line, Seed};
 use std::alloc::{AllocError, Global};
@@ -19,16 +18,13 @@ fn file_line(alloc: Global, fields: &[&[u8]]) -> Result<Option<Line>, AllocError
     let [number, hex] = fields else {
         return Ok(None);
     };
-    let Some(number) = number_to(number, MOST_NUMBER) else {
+    let Some(number) = u32_of(number) else {
         return Ok(None);
     };
     let Some(bytes) = bytes_of(alloc, hex)? else {
         return Ok(None);
     };
-    Ok(Some(Line::File(Seed {
-        number: number as u32,
-        bytes,
-    })))
+    Ok(Some(Line::File(Seed { number, bytes })))
 }
 
 /// `choose C`
@@ -39,8 +35,8 @@ fn choose_line(fields: &[&[u8]]) -> Option<Line>
     let [choice] = fields else {
         return None;
     };
-    let choice = number_to(choice, MOST_CHOICE)?;
-    Some(Line::Choose(choice as u32))
+    let choice = u32_of(choice)?;
+    Some(Line::Choose(choice))
 }
 
 /// A job, by its kind and its marks.

@@ -2,13 +2,13 @@
 
 ghost use Rattle.std.specs.Prelude.{◌≡◌, ◌∷◌, [], ◌<◌, ◌≤◌, MatchOption, MatchResult, IfSome, IfOk, Some, None, length, sum_by, if◌then◌else◌, Option};
 ghost use Rattle.uring_text.specs.Lines.{lines_of};
-ghost use Rattle.uring_text.specs.Limits.{most_buffered};
+ghost use Rattle.uring_text.specs.declared.limits.TheConstants.{MAX_JOB_BYTES};
 ghost use Rattle.uring_text.specs.Script.{Told, script_of, told_by, Refuses, buffer_len, has_number, told_of};
 ghost use Rattle.uring_text.specs.Adding.{adds};
 ghost use Rattle.uring_text.specs.declared.script.Line.TheVariants as line;
 
 use crate::fields::cut;
-use crate::limits::{MOST_BUFFERED, MOST_FILES, MOST_JOBS};
+use crate::limits::{MAX_FILES, MAX_JOB_BYTES, MAX_JOBS};
 use crate::line::line_says;
 use crate::script::{Line, Script, ScriptFault, Seed};
 use std::alloc::{AllocError, Global};
@@ -50,7 +50,7 @@ struct Reading {
     jobs: Vec<Job>,
     buffered: usize,
     ghost counted: { buffered ≡ sum_by buffer_len jobs.items },
-    ghost bounded: { buffered ≤ most_buffered },
+    ghost bounded: { buffered ≤ MAX_JOB_BYTES },
 }
 
 impl Reading {
@@ -64,7 +64,7 @@ impl Reading {
     fn add_file(&mut self, seed: Seed) -> Result<bool, AllocError>
         ensures { IfOk result (λ fits. adds (told_of self.old.files self.old.choices self.old.jobs) (line.File seed) ≡ (if fits then Some (told_of self.new.files self.new.choices self.new.jobs) else None)) }
     {
-        if self.files.len() >= MOST_FILES || self.has_file(seed.number) {
+        if self.files.len() >= MAX_FILES || self.has_file(seed.number) {
             return Ok(false);
         }
         self.files.push(seed)?;
@@ -76,7 +76,7 @@ impl Reading {
         ensures { IfOk result (λ fits. adds (told_of self.old.files self.old.choices self.old.jobs) (line.Job job) ≡ (if fits then Some (told_of self.new.files self.new.choices self.new.jobs) else None)) }
     {
         let len = buffer_len(&job);
-        if self.jobs.len() >= MOST_JOBS || len > MOST_BUFFERED - self.buffered {
+        if self.jobs.len() >= MAX_JOBS || len > MAX_JOB_BYTES - self.buffered {
             return Ok(false);
         }
         self.jobs.push(job)?;

@@ -76,8 +76,6 @@ fn lines_of_report(alloc: Global, report: &Report) -> Result<String, AllocError>
 pub fn report_text(alloc: Global, report: &Report) -> Result<Buf, RunFault>
     ensures { MatchResult result (λ text. text ≡ text_of report.now.outcomes.items report.now.journal.items) (λ fault. fault ≡ NoMemory) }
 {
-    match lines_of_report(alloc, report) {
-        Ok(text) => Ok(Buf::from(text.into_bytes())),
-        Err(_) => Err(RunFault::NoMemory),
-    }
+    let text = lines_of_report(alloc, report)?;
+    Ok(Buf::from(text.into_bytes()))
 }

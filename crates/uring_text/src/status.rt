@@ -1,10 +1,11 @@
 //! How a run of the program ended.
 
-ghost use Rattle.std.specs.Prelude.{◌≡◌, IfOk, MatchResult, string_bytes};
+ghost use Rattle.std.specs.Prelude.{◌≡◌, ◌≢◌, ◌↔◌, [], IsTrue, MatchResult};
 ghost use Rattle.uring_model.specs.declared.jobs.RunFault.TheVariants.{NoMemory};
-ghost use Rattle.uring_text.specs.Status.{code_of, words_of};
+ghost use Rattle.uring_text.specs.Status.{code_of, status_words};
 
-use std::alloc::{AllocError, Global};
+use std::alloc::Global;
+use std::fmt;
 use uring_base::Buf;
 use uring_model::RunFault;
 
@@ -33,6 +34,7 @@ pub enum Status {
     PartnerFault,
     /// The output failed.
     WriteFault,
+    /// There was no memory.
     NoMemory,
 }
 
@@ -73,33 +75,44 @@ impl Status {
             Status::NoMemory => 12,
         }
     }
-}
 
-fn words_of(alloc: Global, status: Status) -> Result<String, AllocError>
-    ensures { IfOk result (λ text. string_bytes text ≡ words_of status) }
-{
-    match status {
-        Status::Done => Ok(String::new(alloc)),
-        Status::Usage => String::from_str(alloc, "usage"),
-        Status::ReadFault => String::from_str(alloc, "read fault"),
-        Status::TooLong => String::from_str(alloc, "too long"),
-        Status::Script(line) => format!(in alloc; "script line {line}"),
-        Status::BadSize => String::from_str(alloc, "bad size"),
-        Status::BadJob(job) => format!(in alloc; "bad job {job}"),
-        Status::Stranger(number) => format!(in alloc; "stranger {number}"),
-        Status::Stalled => String::from_str(alloc, "stalled"),
-        Status::PartnerFault => String::from_str(alloc, "partner fault"),
-        Status::WriteFault => String::from_str(alloc, "write fault"),
-        Status::NoMemory => String::from_str(alloc, "no memory"),
+    /// Whether the program says something of it.
+    pub fn has_text(&self) -> bool
+        ensures { IsTrue result ↔ (status_words self.now ≢ []) }
+    {
+        !matches!(self, Status::Done)
     }
 }
 
-/// What the program says of a status, without a line feed; empty where all was written.
+/// Writes what the program says of a status, without a line feed: nothing where all was written.
+/// It takes no memory.
+impl fmt::Display for Status {
+    ghost use Rattle.std.specs.Prelude.{Some};
+
+    ghost output = { λ status. Some (status_words status) };
+
+    fn fmt<W: fmt::Write>(&self, f: &mut fmt::Formatter<W>) -> fmt::Result {
+        match self {
+            Status::Done => Ok(()),
+            Status::Usage => f.write_str("usage"),
+            Status::ReadFault => f.write_str("read fault"),
+            Status::TooLong => f.write_str("too long"),
+            Status::Script(line) => write!(f, "script line {line}"),
+            Status::BadSize => f.write_str("bad size"),
+            Status::BadJob(job) => write!(f, "bad job {job}"),
+            Status::Stranger(number) => write!(f, "stranger {number}"),
+            Status::Stalled => f.write_str("stalled"),
+            Status::PartnerFault => f.write_str("partner fault"),
+            Status::WriteFault => f.write_str("write fault"),
+            Status::NoMemory => f.write_str("no memory"),
+        }
+    }
+}
+
+/// What `Display` writes of a status, as bytes.
 pub fn status_text(alloc: Global, status: Status) -> Result<Buf, RunFault>
-    ensures { MatchResult result (λ text. text ≡ words_of status) (λ fault. fault ≡ NoMemory) }
+    ensures { MatchResult result (λ text. text ≡ status_words status) (λ fault. fault ≡ NoMemory) }
 {
-    match words_of(alloc, status) {
-        Ok(text) => Ok(Buf::from(text.into_bytes())),
-        Err(_) => Err(RunFault::NoMemory),
-    }
+    let text = status.to_string(alloc)?;
+    Ok(Buf::from(text.into_bytes()))
 }

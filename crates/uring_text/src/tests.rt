@@ -1,4 +1,5 @@
-use crate::{Status, read_script, report_text, status_text};
+use crate::{ScriptFault, Status, read_script, report_text, status_text};
+use std::io;
 use std::test::Fail;
 use uring_model::Report;
 
@@ -12,31 +13,30 @@ fn each_call(rt: HostRuntime) -> Result<(), Fail> {
         journal: Vec::new(alloc),
     };
     assert!(rt; report_text(alloc, &report).is_ok());
-    assert!(rt; status_text(alloc, Status::Script(2)).is_ok());
+    match status_text(alloc, Status::Script(2)) {
+        Ok(text) => assert_eq!(rt; text.as_slice(), b"script line 2".as_slice()),
+        Err(_) => assert!(rt; false),
+    }
     Ok(())
 }
 
+/// What a fault is called, and what a status is called where it is shown.
 #[test]
-fn statuses(rt: HostRuntime) {
+fn texts(rt: HostRuntime) -> Result<(), Fail> {
     let alloc = rt.alloc();
-    for (status, code, want) in [
-        (Status::Done, 0, b"".as_slice()),
-        (Status::Usage, 2, b"usage".as_slice()),
-        (Status::ReadFault, 3, b"read fault".as_slice()),
-        (Status::TooLong, 4, b"too long".as_slice()),
-        (Status::Script(2), 5, b"script line 2".as_slice()),
-        (Status::BadSize, 6, b"bad size".as_slice()),
-        (Status::BadJob(0), 7, b"bad job 0".as_slice()),
-        (Status::Stranger(7), 8, b"stranger 7".as_slice()),
-        (Status::Stalled, 9, b"stalled".as_slice()),
-        (Status::PartnerFault, 10, b"partner fault".as_slice()),
-        (Status::WriteFault, 11, b"write fault".as_slice()),
-        (Status::NoMemory, 12, b"no memory".as_slice()),
-    ] {
-        assert_eq!(rt; status.code(), code);
-        match status_text(alloc, status) {
-            Ok(text) => assert_eq!(rt; text.as_slice(), want),
-            Err(_) => assert!(rt; false),
-        }
-    }
+    assert_eq!(rt;
+        ScriptFault::Line(7).to_string(alloc)?.as_str(),
+        "script line 7"
+    );
+    assert_eq!(rt;
+        ScriptFault::NoMemory.to_string(alloc)?.as_str(),
+        "no memory"
+    );
+    assert_eq!(rt;
+        io::Error::from(ScriptFault::Line(7)).kind(),
+        io::ErrorKind::InvalidData
+    );
+    let shown = format!(in alloc; "{}|{}", Status::Done, Status::WriteFault)?;
+    assert_eq!(rt; shown.as_str(), "|write fault");
+    Ok(())
 }

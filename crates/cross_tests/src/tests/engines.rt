@@ -1,3 +1,5 @@
+use bitflags::Flags as _;
+use partner_traits::Seedable;
 use rent_engine::{
     Engine, EngineFault, OneAnswer, OneOp, OpDone, OpKey, OpPoll, OpState, Poll, StartFault, Step,
     TurnReport,
@@ -6,11 +8,12 @@ use ring_traits::UserEnds;
 use std::alloc::{AllocError, Global};
 use std::process::Abort;
 use std::test::Fail;
+use uring_base::errno::{ECANCELED, ENOENT};
 use uring_base::squeue::Entry;
 use uring_base::types::Fixed;
-use uring_base::{Buf, Completion, Loan};
+use uring_base::{Buf, Completion, Loan, cqueue};
 use uring_ops_file::{Nop, Read};
-use uring_partner::{MemoryPartner, Seedable};
+use uring_partner::MemoryPartner;
 use uring_ring::{IoUring, SetupError};
 
 fn engine_of(alloc: Global, entries: u32) -> Result<Engine<IoUring>, SetupError> {
@@ -99,7 +102,7 @@ fn assert_bytes(rt: &impl Abort, answer: OneAnswer, bytes: &[u8]) {
 
 /// Each call that can find no memory answers otherwise where there is memory.
 #[test]
-fn each_call(rt: HostRuntime) -> Result<(), Fail> {
+fn each_call_of_the_engine(rt: HostRuntime) -> Result<(), Fail> {
     let alloc = rt.alloc();
     let mut engine = engine_of(alloc, 2)?;
     let mut partner = MemoryPartner::new(alloc);
@@ -135,7 +138,7 @@ fn ring_of_one(rt: HostRuntime) -> Result<(), Fail> {
     assert_eq!(rt; engine.fresh(), 0);
     let canceled = engine.cancel(alloc, 9, 7);
     assert_eq!(rt; engine.turn(alloc, &mut partner), Ok(report));
-    assert_resolved(&rt, &mut engine, canceled, -2);
+    assert_resolved(&rt, &mut engine, canceled, -ENOENT);
     Ok(())
 }
 
@@ -144,23 +147,25 @@ fn ring_of_one(rt: HostRuntime) -> Result<(), Fail> {
 fn strangers(rt: HostRuntime) -> Result<(), Fail> {
     let alloc = rt.alloc();
     let mut engine = engine_of(alloc, 2)?;
+    let last = cqueue::Flags::empty().bits();
+    let more = cqueue::Flags::MORE.bits();
     let buf = Buf::from_slice(alloc, b"ab")?;
     let read = read_of(2, 0);
     assert!(rt; engine.start(alloc, 0, read, 0, Some(buf)).is_ok());
     assert!(rt; nop_under(alloc, &mut engine, 1).is_ok());
-    assert_stranger(&rt, &mut engine, completion(9, 0, None));
-    assert_stranger(&rt, &mut engine, completion(0, 0, loan_of(alloc, 9)?));
-    assert_stranger(&rt, &mut engine, completion(0, 0, None));
-    assert_stranger(&rt, &mut engine, completion(0, 2, loan_of(alloc, 0)?));
-    assert_stranger(&rt, &mut engine, completion(1, 0, loan_of(alloc, 1)?));
+    assert_stranger(&rt, &mut engine, completion(9, last, None));
+    assert_stranger(&rt, &mut engine, completion(0, last, loan_of(alloc, 9)?));
+    assert_stranger(&rt, &mut engine, completion(0, last, None));
+    assert_stranger(&rt, &mut engine, completion(0, more, loan_of(alloc, 0)?));
+    assert_stranger(&rt, &mut engine, completion(1, last, loan_of(alloc, 1)?));
     let step = Step {
         number: 0,
         result: 7,
-        flags: 2,
+        flags: more,
     };
-    assert_eq!(rt; engine.complete(completion(0, 2, None)), Ok(Some(step)));
+    assert_eq!(rt; engine.complete(completion(0, more, None)), Ok(Some(step)));
     assert_eq!(rt;
-        engine.complete(completion(0, 0, loan_of(alloc, 0)?)),
+        engine.complete(completion(0, last, loan_of(alloc, 0)?)),
         Ok(None)
     );
     assert_eq!(rt; engine.in_flight(), 1);
@@ -206,6 +211,6 @@ fn cancels(rt: HostRuntime) -> Result<(), Fail> {
     };
     assert_eq!(rt; engine.turn(alloc, &mut partner), Ok(report));
     assert_resolved(&rt, &mut engine, canceled, 0);
-    assert_resolved(&rt, &mut engine, nop, -125);
+    assert_resolved(&rt, &mut engine, nop, -ECANCELED);
     Ok(())
 }

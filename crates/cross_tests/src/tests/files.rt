@@ -1,12 +1,15 @@
-use rent_engine::{Engine, OpState, Poll};
+use partner_traits::Seedable;
+use rent_engine::{Engine, EngineFault, OpState, Poll, StartFault};
 use rent_fs::{File, FsError, ReadAt};
 use std::alloc::Global;
 use std::process::Abort;
 use std::test::Fail;
 use uring_base::Buf;
+use uring_base::errno::{EBADF, EIO};
 use uring_base::squeue::Flags;
-use uring_partner::{HostilePartner, LoanPlan, MemoryPartner, Scripted, Seedable};
+use uring_partner::{HostilePartner, LoanPlan, MemoryPartner, Scripted};
 use uring_ring::{IoUring, SetupError};
+use uring_submit::SubmitError;
 
 fn engine_of(alloc: Global, entries: u32) -> Result<Engine<IoUring>, SetupError> {
     let ring = IoUring::new(alloc, entries)?;
@@ -41,7 +44,7 @@ fn assert_ends(rt: &impl Abort, polled: Poll<Result<(), FsError>>, answer: Resul
 /// Each call that can find no memory answers otherwise where there is memory: what is written is
 /// read.
 #[test]
-fn each_call(rt: HostRuntime) -> Result<(), Fail> {
+fn each_call_of_the_files(rt: HostRuntime) -> Result<(), Fail> {
     let alloc = rt.alloc();
     let mut engine = engine_of(alloc, 2)?;
     let mut partner = MemoryPartner::new(alloc);
@@ -88,7 +91,7 @@ fn numbers_in_use(rt: HostRuntime) -> Result<(), Fail> {
     assert_gives(
         &rt,
         first.poll(alloc, &mut engine),
-        Err(FsError::Os(9)),
+        Err(FsError::Os(EBADF.cast_unsigned())),
         b"\0",
     );
     assert!(rt; third.poll(alloc, &mut engine).is_pending());
@@ -121,7 +124,7 @@ fn what_a_hostile_partner_tells(rt: HostRuntime) -> Result<(), Fail> {
     let alloc = rt.alloc();
     let mut engine = engine_of(alloc, 1)?;
     let mut script = Vec::new(alloc);
-    for result in [1000, -2147483648] {
+    for result in [1000, i32::MIN] {
         script.push(Scripted::Post {
             user_data: 0,
             result,
@@ -131,7 +134,7 @@ fn what_a_hostile_partner_tells(rt: HostRuntime) -> Result<(), Fail> {
         script.push(Scripted::Turn)?;
     }
     let mut partner = HostilePartner::new(alloc, script);
-    for answer in [Ok(1000), Err(FsError::Os(2147483648))] {
+    for answer in [Ok(1000), Err(FsError::Os(i32::MIN.unsigned_abs()))] {
         let file = File::of_number(3);
         let mut read = file
             .read_at(Buf::zeroed(alloc, 2)?, 0)
@@ -160,6 +163,25 @@ fn syncs_that_fail(rt: HostRuntime) -> Result<(), Fail> {
     assert!(rt; third.poll(alloc, &mut engine).is_pending());
     assert_ends(&rt, third.poll(alloc, &mut other), Err(FsError::KeyLost));
     assert!(rt; engine.turn(alloc, &mut partner).is_ok());
-    assert_ends(&rt, first.poll(alloc, &mut engine), Err(FsError::Os(9)));
+    let no_file = Err(FsError::Os(EBADF.cast_unsigned()));
+    assert_ends(&rt, first.poll(alloc, &mut engine), no_file);
+    Ok(())
+}
+
+/// What the faults of each layer say, and that a partner's keeps its error number up to the top.
+#[test]
+fn texts_of_faults(rt: HostRuntime) -> Result<(), Fail> {
+    let alloc = rt.alloc();
+    let full = format!(in alloc; "{}", StartFault::RingFull(None))?;
+    assert_eq!(rt; full.as_str(), "the submission ring is full");
+    let submit = SubmitError::Fault(EIO.cast_unsigned());
+    let text = format!(in alloc; "{submit}")?;
+    assert_eq!(rt; text.as_str(), "partner fault: error number 5");
+    let engine = EngineFault::from(submit);
+    let text = format!(in alloc; "{engine}")?;
+    assert_eq!(rt; text.as_str(), "partner fault: error number 5");
+    let file = FsError::from(engine);
+    let text = format!(in alloc; "{file}")?;
+    assert_eq!(rt; text.as_str(), "error number 5");
     Ok(())
 }

@@ -1,9 +1,9 @@
+use run_loop::{Job, JobKind, Link, RunFault, run_jobs};
 use std::alloc::{AllocError, Global};
 use std::process::Abort;
 use std::test::Fail;
 use uring_base::{Buf, Event};
 use uring_partner::{HostilePartner, LoanPlan, MemoryPartner, Partner, Scripted, Seedable};
-use uring_run::{Job, JobKind, Link, RunFault, run_jobs};
 
 fn free(kind: JobKind) -> Job {
     Job {

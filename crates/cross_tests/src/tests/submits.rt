@@ -1,14 +1,18 @@
 ghost use Rattle.std.specs.Prelude.{refl};
 
+use bitflags::Flags as _;
+use partner_traits::{Counts, EnterCall, Partner, PartnerError};
+use ring_setup::SubmissionFlags;
 use ring_traits::{PartnerSide, UserEnds};
 use std::alloc::Global;
 use std::process::Abort;
 use std::test::Fail;
 use uring_base::Event;
-use uring_base::squeue::Entry;
-use uring_partner::{Counts, EnterCall, MemoryPartner, Partner, PartnerError};
+use uring_base::errno::EIO;
+use uring_ops_file::Nop;
+use uring_partner::MemoryPartner;
 use uring_ring::IoUring;
-use uring_submit::{SubmitError, Submitter};
+use uring_submit::{EnterFlags, SubmitError, Submitter};
 
 /// A partner in memory, and the call of its last enter.
 #[derive(Drop)]
@@ -44,6 +48,8 @@ impl Partner for Recording {
 
     ghost plan = { λ partner. ⟦<MemoryPartner as Partner>⟧.plan partner.inner };
 
+    ghost errno = { λ partner. ⟦<MemoryPartner as Partner>⟧.errno partner.inner };
+
     fn enter<Q: PartnerSide>(
         &mut self,
         alloc: Global,
@@ -66,24 +72,30 @@ impl Partner for Recording {
 }
 
 /// Asserts that the last enter had these values, over the raw descriptor.
-fn assert_entered(rt: &impl Abort, partner: &Recording, to_submit: u32, want: u32, flags: u32) {
+fn assert_entered(
+    rt: &impl Abort,
+    partner: &Recording,
+    to_submit: u32,
+    want: u32,
+    flags: EnterFlags,
+) {
     let wanted = EnterCall {
         ring: -1,
         to_submit,
         want,
-        flags,
+        flags: flags.bits(),
     };
     assert_eq!(rt; partner.last, Some(wanted));
 }
 
 /// The one call that can find no memory answers otherwise where there is memory.
 #[test]
-fn each_call(rt: HostRuntime) -> Result<(), Fail> {
+fn each_call_of_the_submitter(rt: HostRuntime) -> Result<(), Fail> {
     let alloc = rt.alloc();
     let mut ring = IoUring::new(alloc, 2)?;
     let mut partner = MemoryPartner::new(alloc);
     let mut submitter = Submitter::new(ring.params());
-    assert!(rt; ring.offer(Entry::blank(0), None).is_ok());
+    assert!(rt; ring.offer(Nop::new().build(), None).is_ok());
     ring.publish();
     let answer = submitter.submit_and_wait(alloc, &mut ring, &mut partner, 1);
     assert_eq!(rt; answer, Ok(1));
@@ -104,24 +116,24 @@ fn values_of_an_enter(rt: HostRuntime) -> Result<(), Fail> {
         submitter.submit_and_wait(alloc, &mut ring, &mut partner, 0),
         Ok(0)
     );
-    assert_entered(&rt, &partner, 0, 0, 0);
-    assert!(rt; ring.offer(Entry::blank(0), None).is_ok());
+    assert_entered(&rt, &partner, 0, 0, EnterFlags::empty());
+    assert!(rt; ring.offer(Nop::new().build(), None).is_ok());
     ring.publish();
     assert_eq!(rt;
         submitter.submit_and_wait(alloc, &mut ring, &mut partner, 3),
         Ok(1)
     );
-    assert_entered(&rt, &partner, 1, 3, 1);
-    ring.set_sq_flags(2);
+    assert_entered(&rt, &partner, 1, 3, EnterFlags::GETEVENTS);
+    ring.set_sq_flags(SubmissionFlags::CQ_OVERFLOW.bits());
     assert_eq!(rt;
         submitter.submit_and_wait(alloc, &mut ring, &mut partner, 0),
         Ok(0)
     );
-    assert_entered(&rt, &partner, 0, 0, 1);
+    assert_entered(&rt, &partner, 0, 0, EnterFlags::GETEVENTS);
     Ok(())
 }
 
-/// A partner's fault is handed on with its errno.
+/// A partner's fault is handed on with its error number.
 #[test]
 fn faults_are_handed_on(rt: HostRuntime) -> Result<(), Fail> {
     let alloc = rt.alloc();
@@ -130,6 +142,6 @@ fn faults_are_handed_on(rt: HostRuntime) -> Result<(), Fail> {
     let mut partner = MemoryPartner::new(alloc);
     assert!(rt; partner.fail_enter(alloc, 1).is_ok());
     let answer = submitter.submit_and_wait(alloc, &mut ring, &mut partner, 1);
-    assert_eq!(rt; answer, Err(SubmitError::Fault(5)));
+    assert_eq!(rt; answer, Err(SubmitError::Fault(EIO.cast_unsigned())));
     Ok(())
 }

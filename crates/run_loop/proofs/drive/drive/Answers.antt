@@ -2,7 +2,7 @@ use Rattle.std.proofs.Common.{◌≡◌, ℕ, ◌<◌, List, [], Contains, true,
 use Rattle.std.proofs.lemmas.Result.{err_from_is_err_and}
 use Rattle.uring_model.specs.Machine.{Files}
 use Rattle.uring_model.specs.Schedule as schedule
-use Rattle.uring_model.specs.Refines.{IsIdle}
+use Rattle.uring_model.specs.Refines.{IsPlainAndIdle}
 use Rattle.uring_model.specs.Moves.{Move, log_of}
 use Rattle.uring_base.specs.declared.events.Taken.{Taken}
 use Rattle.uring_base.specs.declared.events.LogEvent.{LogEvent}
@@ -81,7 +81,7 @@ returns-then-idled-idle-clause-unstalled g c =
     let d = c.in_ok-fin.ensures in
     let x = next_of _ _ _ _ _ _ _ _ _ _ _ _ _ _ _ _ _ _ _ c.args.todo.now _ _ _ _ c.model_laws.ensures s.0 d.round g.R.Rings.keeps d.inside (some_open _ _ c.is_whole.ensures.1 c.rounds-test.true) s.1 in
     let y = running_next _ _ _ _ _ _ _ _ _ _ _ _ _ _ _ _ _ _ _ c.args.todo.now _ _ _ _ _ c.idle_after-idled.result x d.calm c.idle_after-idled.ensures in
-    if_some (g.P.Partner.state c.args.partner.now) (λ a. IsIdle g.P.Partner.Plain a → true ≡ false) (λ a told idle. absurd (omega (arith, (y.prompt a told idle).0, c.if-idled-idle.true, c.requires.idle)))
+    if_some (g.P.Partner.state c.args.partner.now) (λ a. IsPlainAndIdle g.P.Partner.Plain a → true ≡ false) (λ a told idle. absurd (omega (arith, (y.prompt a told idle).0, c.if-idled-idle.true, c.requires.idle)))
 
 pub rounds-smaller : goal.rounds-smaller
 rounds-smaller g c =

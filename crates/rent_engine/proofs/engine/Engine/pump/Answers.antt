@@ -1,4 +1,5 @@
 use Rattle.std.proofs.Common.{◌≡◌, [], Ok, Err, refl, sym, ap, ◌∙◌, subst, arith}
+use Rattle.std.proofs.lemmas.Result.{err_from_is_err_and}
 use Rattle.ring_traits.specs.Lists.{Becomes, WhereTold, all_published}
 use Rattle.rent_engine.specs.Engines.{Reaped, finals_in}
 use Rattle.rent_engine.proofs.Pumping.{published_reaped, Pumps-taken, Pumps-strange, Pumped-more, Pumped-same, finals_more, is_last}
@@ -25,15 +26,17 @@ reaps-init g c =
       params = ap (λ e. e.params) v;
     }
 
-pub returns-in-Err-clause-pumped : goal.returns-in-Err-clause-pumped
-returns-in-Err-clause-pumped g c =
+pub returns-in_err-step-clause-pumped : goal.returns-in_err-step-clause-pumped
+returns-in_err-step-clause-pumped g c =
     let i = c.reaps.invariant in
     let v = c.self-in-reaps.view_is in
-    let e = c.in-Some.ensures in (
+    let e = c.in-Some.ensures in
+    let p = err_from_is_err_and c.from_residual.result c.from_residual.ensures.1 in
+    rw p.1 (
       (Pumped-more g.R.UserEnds.used g.R.Rings.lists g.R.UserEnds.room g.R.UserEnds.waiting g.met.R.UserEnds.used_then
-          c.args.self.now.ring c.reaps.self.ring c.self-in-reaps.inside.ring c.reap.new.self c.complete.new.self.ring c.args.self.now.ops c.reaps.self.ops c.self-in-reaps.inside.operations.ops c.complete.new.self.ops (Err c.in-Err.fault) c.in-Some.completion
+          c.args.self.now.ring c.reaps.self.ring c.self-in-reaps.inside.ring c.reap.new.self c.complete.new.self.ring c.args.self.now.ops c.reaps.self.ops c.self-in-reaps.inside.operations.ops c.complete.new.self.ops (Err p.0) c.in-Some.completion
           i.pumped (ap (λ s. s.ring) v) (ap (λ s. s.ops) v) c.complete.ensures.ring e.used e.told e.room e.count
-          (Pumps-strange _ _ _ _ c.complete.ensures.ops c.in-Err.ensures.stranger c.in-Err.ensures.fault)).0,
+          (Pumps-strange _ _ _ _ c.complete.ensures.ops c.in_err-step.ensures.stranger (p.2 ∙ c.in_err-step.ensures.fault))).0,
       tt,
     )
 
@@ -48,10 +51,10 @@ reaps-preserved g c =
     let p = Pumped-more g.R.UserEnds.used g.R.Rings.lists g.R.UserEnds.room g.R.UserEnds.waiting g.met.R.UserEnds.used_then
     c.args.self.now.ring c.reaps.self.ring c.self-in-reaps.inside.ring c.reap.new.self c.complete.new.self.ring c.args.self.now.ops c.reaps.self.ops c.self-in-reaps.inside.operations.ops c.complete.new.self.ops (Ok tt) c.in-Some.completion
     i.pumped (ap (λ s. s.ring) v) (ap (λ s. s.ops) v) c.complete.ensures.ring e.used e.told e.room e.count
-    (Pumps-taken _ _ _ c.complete.ensures.ops c.in-Ok.ensures.stranger) in
+    (Pumps-taken _ _ _ c.complete.ensures.ops c.in_ok-step.ensures.stranger) in
     record {
       pumped = p.0;
-      finals = finals_more i.pumped.completions c.in-Some.completion c.reaps.finals _ c.is_none.result (is_last c.in-Some.completion c.in-Ok.step c.is_none.result c.in-Ok.ensures.step c.is_none.ensures) i.finals c.one_more_if-finals.ensures ∙ ap finals_in (sym p.1);
+      finals = finals_more i.pumped.completions c.in-Some.completion c.reaps.finals _ c.is_none.result (is_last c.in-Some.completion c.in_ok-step.step c.is_none.result c.in_ok-step.ensures.step c.is_none.ensures) i.finals c.one_more_if-finals.ensures ∙ ap finals_in (sym p.1);
       spare = omega (arith, was, here, before);
       params = c.complete.ensures.params ∙ ap (λ s. s.params) v ∙ i.params;
     }

@@ -1,7 +1,7 @@
 use Rattle.std.proofs.Common.{sym, ap, ◌∙◌}
 use Rattle.std.specs.Option.{option_and_then}
 use Rattle.slab.specs.Slab.{get}
-use Rattle.rent_engine.specs.Numbered.{at}
+use Rattle.rent_engine.specs.NumberedSlab.{at}
 use Rattle.rent_engine.proofs.Picks.{get-at}
 use Rattle.rent_engine.proofs.numbered_slab.NumberedSlab.get.Goals as goal
 

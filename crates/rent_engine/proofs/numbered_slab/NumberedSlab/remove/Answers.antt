@@ -2,7 +2,7 @@ use Rattle.std.proofs.Common.{sym, ap, ◌∙◌}
 use Rattle.std.specs.FinMap as map
 use Rattle.std.specs.Option.{option_and_then}
 use Rattle.slab.specs.Slab.{get}
-use Rattle.rent_engine.specs.Numbered.{at}
+use Rattle.rent_engine.specs.NumberedSlab.{at}
 use Rattle.rent_engine.proofs.Picks.{get-at}
 use Rattle.rent_engine.proofs.Indexed.{picked-left, picked-absent, IsIndexed-left}
 use Rattle.rent_engine.proofs.numbered_slab.NumberedSlab.remove.Goals as goal

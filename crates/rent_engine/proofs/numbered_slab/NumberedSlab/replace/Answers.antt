@@ -2,7 +2,7 @@ use Rattle.std.proofs.Common.{is_some, sym, ap, ◌∙◌}
 use Rattle.std.specs.FinMap as map
 use Rattle.slab.proofs.SlabLemmas.{Updates-with_value}
 use Rattle.slab.specs.Slab.{ContainsKey}
-use Rattle.rent_engine.specs.Numbered.{at}
+use Rattle.rent_engine.specs.NumberedSlab.{at}
 use Rattle.rent_engine.proofs.Indexed.{picked-changed, no_place_of_it, no_value}
 use Rattle.rent_engine.proofs.numbered_slab.NumberedSlab.replace.Goals as goal
 

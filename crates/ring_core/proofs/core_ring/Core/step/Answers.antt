@@ -1,14 +1,14 @@
 use Rattle.std.proofs.Common.{◌≡◌, ℕ, refl, sym, subst}
 use Rattle.ring_core.specs.declared.steps.CoreStep.{CoreStep}
 use Rattle.ring_core.specs.declared.answers.CoreAnswer.TheVariants.{Done}
-use Rattle.ring_core.specs.Machine.{Machine, after_step, answer}
+use Rattle.ring_core.specs.RingState.{RingState, after_step, answer}
 use Rattle.ring_core.specs.Stands.{Stands}
 use Rattle.ring_core.specs.declared.core_ring.Core.{Core}
 use Rattle.ring_core.proofs.Kept.{tail_published, head_seen, head_published, tail_seen}
 use Rattle.ring_core.proofs.core_ring.Core.step.Goals as goal
 
--- the core answers as the machine does, and stands for the next one
-abbrev Follows : Core → ℕ → Machine → CoreStep → Type 0
+-- the core answers as the state tells, and stands for the next one
+abbrev Follows : Core → ℕ → RingState → CoreStep → Type 0
 Follows core start m step = (Done ≡ answer step m) × Stands core start (after_step step m)
 
 pub returns-in-PublishTail : goal.returns-in-PublishTail

@@ -1,7 +1,7 @@
 use Rattle.std.proofs.Common.{◌++◌, [], refl, ap, sym, subst, ◌∙◌, arith, append-nil}
 use Rattle.std.proofs.lemmas.List.{length-map}
 use Rattle.rent_engine.specs.Ops.{polled}
-use Rattle.run_loop.specs.Flights.{AreOperated, jobs_of}
+use Rattle.run_loop.specs.Flights.{AreOperated, jobs_in_flight}
 use Rattle.run_loop.specs.JobOps.{reply_of}
 use Rattle.run_loop.proofs.FlightLemmas.{polled_next, all_left, none_polled, none_of}
 use Rattle.run_loop.proofs.LentLemmas.{can_poll, replied_next}
@@ -9,7 +9,7 @@ use Rattle.run_loop.proofs.job_table.JobTable.poll_all.Goals as goal
 
 pub loop-left-init : goal.loop-left-init
 loop-left-init g c =
-    let jobs = jobs_of c.args.self.now.in_flight.items in
+    let jobs = jobs_in_flight c.args.self.now.in_flight.items in
     let count = length-map c.args.self.now.in_flight.items (λ f. f.job) in
     let len = c.len-left.ensures in (
       jobs,
@@ -39,10 +39,10 @@ pub loop-left-preserved : goal.loop-left-preserved
 loop-left-preserved g c =
     let s = c.loop-left.invariant in
     let d = c.in_ok-poll_one-in-Some.ensures in
-    let p = polled_next (reply_of c.in-Some.flight.op) c.loop-left.engine.ops c.loop-left.self.started c.loop-left.self.slots.items c.in-Some.flight.job s.0 s.1 (jobs_of c.pop_front.new.self.items)
-    (sym s.2 ∙ ap jobs_of c.in-Some.ensures.items) (λ z. omega (arith, s.3, z, c.loop-left-test.true)) s.4 s.5
+    let p = polled_next (reply_of c.in-Some.flight.op) c.loop-left.engine.ops c.loop-left.self.started c.loop-left.self.slots.items c.in-Some.flight.job s.0 s.1 (jobs_in_flight c.pop_front.new.self.items)
+    (sym s.2 ∙ ap jobs_in_flight c.in-Some.ensures.items) (λ z. omega (arith, s.3, z, c.loop-left-test.true)) s.4 s.5
     (can_poll c.loop-left.engine.ops c.loop-left.self.started c.loop-left.self.slots.items c.loop-left.self.in_flight.items (s.0 ++ s.1) c.in-Some.flight c.pop_front.new.self.items s.2 c.in-Some.ensures.items s.4 s.9).1
-    c.poll_one.new.engine.ops c.poll_one.new.self.started c.poll_one.new.self.slots.items (jobs_of c.poll_one.new.self.in_flight.items) d.ops d.slots d.started d.in_flight in (
+    c.poll_one.new.engine.ops c.poll_one.new.self.started c.poll_one.new.self.slots.items (jobs_in_flight c.poll_one.new.self.in_flight.items) d.ops d.slots d.started d.in_flight in (
       p.0,
       p.1,
       p.2,

@@ -1,12 +1,12 @@
 use Rattle.std.proofs.Common.{◌≡◌, ℕ, List, ◌++◌, length}
-use Rattle.run_loop.specs.Flights.{AreOperated, AreReplied, all_polled, jobs_of}
+use Rattle.run_loop.specs.Flights.{AreOperated, AreReplied, all_polled, jobs_in_flight}
 use Rattle.run_loop.proofs.FlightLemmas.{NoneLeftResolved}
 use Rattle.run_loop.proofs.job_table.JobTable.poll_all.Given as goal
 
 -- the jobs that are still to be polled, and those that were and are left
 abbrev pub invariant-loop-left : goal.invariant-loop-left
 invariant-loop-left g l =
-    (rest : List ℕ) × (left : List ℕ) × (jobs_of l.self.in_flight.items ≡ rest ++ left)
+    (rest : List ℕ) × (left : List ℕ) × (jobs_in_flight l.self.in_flight.items ≡ rest ++ left)
     × (length rest ≡ l.left)
     × AreOperated l.engine.ops l.self.started l.self.slots.items (rest ++ left)
     × NoneLeftResolved l.engine.ops left

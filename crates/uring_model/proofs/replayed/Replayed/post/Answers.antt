@@ -4,7 +4,7 @@ use Rattle.std.proofs.lemmas.Int.{to_z-of_z}
 use Rattle.std.proofs.lemmas.Bool.Decides.{Decides-int_eq}
 use Rattle.std.specs.Ordering.{int_eq}
 use Rattle.uring_model.specs.Replay.{post_at, place_of, mark_if}
-use Rattle.uring_model.specs.Rows.{rows_in, state_in, answer_of, place_between}
+use Rattle.uring_model.specs.Rows.{rows_in, state_in, settling_answer, place_between}
 use Rattle.uring_model.proofs.Replaying.{post_past, post_done, post_open, post_early, post_wrong, post_right, posted, settle_behind, settled_row, counts_put}
 use Rattle.uring_model.proofs.replayed.Replayed.post.Goals as goal
 use Rattle.uring_model.proofs.replayed.Replayed.post.Goals.{then-is_some-via-then-is_some, then-is_some-via-else-is_some+then-not-may_settle}
@@ -32,7 +32,7 @@ returns-then-not-is_result-clause-state c =
     let s = state_in c.args.self.now in
     let row = c.index-rows-place.result in
     let n = c.args.number in
-    let a = answer_of c.in_ok-settling.settling c.settle.new.files in
+    let a = settling_answer c.in_ok-settling.settling c.settle.new.files in
     post_wrong s c.args.outcome (place_between (take n seen) row (drop (n + 1) seen)) a
     (settle_behind a s.files (take n seen) row seen (n + 1) c.in_ok-settling.ensures) (ap (int_eq a.result) (sym (to_z-of_z w32 c.args.outcome c.ranges.outcome)) ∙ sym c.is_result.ensures ∙ c.if-not-is_result.true)
     ∙ post_open s c.args.outcome n seen row (omega arith) c.index-rows-place.is (sym c.is_some.ensures ∙ c.if-is_some.false)
@@ -49,7 +49,7 @@ returns-clause-state c =
     let row = c.index-rows-place.result in
     let now = c.index_mut.result.now in
     let n = c.args.number in
-    let a = answer_of c.in_ok-settling.settling c.settle.new.files in
+    let a = settling_answer c.in_ok-settling.settling c.settle.new.files in
     let r = to_z w32 (of_z w32 c.args.outcome) in
     let back : r ≡ c.args.outcome = to_z-of_z w32 c.args.outcome c.ranges.outcome in
     let same : int_eq a.result c.args.outcome ≡ true = ap (int_eq a.result) (sym back) ∙ sym c.is_result.ensures ∙ c.if-not-is_result.false in

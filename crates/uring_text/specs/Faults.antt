@@ -1,0 +1,9 @@
+-- Why bytes give no script, as an error of the system.
+use Rattle.std.specs.declared.io.ErrorKind.{ErrorKind}
+use Rattle.std.specs.declared.io.ErrorKind.TheVariants.{InvalidData, OutOfMemory}
+use Rattle.uring_text.specs.declared.script.ScriptFault.{ScriptFault}
+use Rattle.uring_text.specs.declared.script.ScriptFault.TheVariants.{Line, NoMemory}
+
+abbrev pub kind_of : ScriptFault → ErrorKind
+kind_of (Line number) = InvalidData
+kind_of NoMemory = OutOfMemory
