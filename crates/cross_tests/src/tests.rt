@@ -1,5 +1,6 @@
 mod engines;
 mod files;
+mod partners;
 mod runs;
 mod scripts;
 mod submits;

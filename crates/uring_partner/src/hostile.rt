@@ -10,9 +10,6 @@ use std::alloc::{AllocError, Global};
 use uring_base::cqueue::more;
 use uring_base::{Buf, Completion, Event, Loan, LogEvent};
 
-#[cfg(test)]
-mod tests;
-
 /// Which loan a scripted post carries.
 #[derive(Clone, Copy, PartialEq, Eq, Debug)]
 pub enum LoanPlan {
@@ -343,15 +340,16 @@ impl Partner for HostilePartner {
 impl Seedable for HostilePartner {
     ghost use Rattle.std.specs.Prelude.{◌≡◌, IsOk};
 
-    /// Does nothing, since it has no files.
+    /// Drops the bytes, since it has no files.
     fn put_file(&mut self, _alloc: Global, _number: u32, _bytes: Buf) -> Result<(), PartnerError>
         ensures ok { IsOk result }
         ensures nothing { self.new ≡ self.old }
     {
+        // Nothing keeps the bytes.
         Ok(())
     }
 
-    /// Does nothing, since its script says what it posts.
+    /// Drops the choice, since its script says what it posts.
     fn add_choice(&mut self, _alloc: Global, _choice: u32) -> Result<(), PartnerError>
         ensures ok { IsOk result }
         ensures nothing { self.new ≡ self.old }

@@ -15,9 +15,6 @@ use uring_base::errno::EIO;
 use uring_base::{Buf, Completion, Event, Loan, LogEvent};
 use uring_model::{Files, Pending, has_link};
 
-#[cfg(test)]
-mod tests;
-
 /// The choice once the choices have run out: the entry in front of the ready ones settles, and the
 /// turn goes on.
 const IN_ORDER: u32 = 1;
