@@ -20,6 +20,7 @@ pub fn cuts_next(taken: &Taken, cut: bool, bad: bool) -> bool
     has_link(taken) && (cut || (has_soft_link(taken) && bad))
 }
 
+/// Whether a cancel of this number marks the entry.
 fn is_target(item: &Pending, number: u64) -> bool
     ensures { result ≡ (nat_eq item.now.taken.entry.user_data number && not item.now.marked) }
 {

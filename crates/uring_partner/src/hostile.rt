@@ -13,6 +13,7 @@ use uring_base::{Buf, Completion, Event, Loan, LogEvent};
 /// Which loan a scripted post carries.
 #[derive(Clone, Copy, PartialEq, Eq, Debug)]
 pub enum LoanPlan {
+    /// No loan.
     Nothing,
     /// The loan of the post's number, where the partner holds one.
     Lent,
@@ -25,6 +26,7 @@ pub enum LoanPlan {
 pub enum Scripted {
     /// Ends the posts of one turn.
     Turn,
+    /// A post of these words, with the loan that the plan names.
     Post {
         user_data: u64,
         result: i32,
@@ -69,6 +71,7 @@ impl HostilePartner {
         }
     }
 
+    /// Begins a turn, over the smaller of what is asked and what is published.
     fn begin_turn<Q: PartnerSide>(
         &mut self,
         side: &mut Q,
@@ -89,6 +92,7 @@ impl HostilePartner {
         Ok(turn)
     }
 
+    /// Takes the entry in front, and holds its loan.
     fn take_one<Q: PartnerSide>(&mut self, side: &mut Q) -> Result<(), AllocError>
         requires { 0 < Q.ready side.old }
         ensures ok { OnOk result ((t : Taken) × LogsBy Q.moved self.old.log.items self.new.log.items side.old side.new (Took t ∷ []) × (loans_held self.new ≡ loans_held self.old ++ option_to_list t.loan)) }
@@ -111,6 +115,7 @@ impl HostilePartner {
         Ok(())
     }
 
+    /// Takes this many entries.
     fn take_all<Q: PartnerSide>(&mut self, side: &mut Q, count: u32) -> Result<(), AllocError>
         requires { count ≤ Q.ready side.old }
         ensures moves { (ts : List Taken) × LogsBy Q.moved self.old.log.items self.new.log.items side.old side.new (map Took ts) × (loans_held self.new ≡ loans_held self.old ++ loans_of ts) × (length ts ≤ count) × OnOk result (length ts ≡ count) }
@@ -194,6 +199,7 @@ impl HostilePartner {
         Ok(())
     }
 
+    /// One turn over the side.
     fn run_turn<Q: PartnerSide>(
         &mut self,
         alloc: Global,
@@ -252,6 +258,7 @@ fn take_held(
     Ok((Some(held.remove(place)), Some(copy)))
 }
 
+/// Where the first loan of this number is held.
 fn place_held(held: &Vec<Loan>, number: u64) -> Option<usize>
     ensures place { result ≡ place_held number held.now.items }
     ensures inside { IfSome result (λ place. place < vec_len held.now) }
@@ -259,6 +266,7 @@ fn place_held(held: &Vec<Loan>, number: u64) -> Option<usize>
     held.iter().position(|loan| loan.number == number)
 }
 
+/// A loan of this number, from 0 and without bytes.
 fn no_bytes(alloc: Global, number: u64) -> Loan
     ensures { result ≡ record { number = number; from = 0; buf = [] } }
 {

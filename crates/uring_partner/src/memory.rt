@@ -128,6 +128,7 @@ impl MemoryPartner {
         Ok(())
     }
 
+    /// The choice in front.
     fn next_choice(&self) -> u32
         ensures { result ≡ choice self.now.choices.items }
     {
@@ -265,6 +266,7 @@ impl MemoryPartner {
     }
 }
 
+/// The log's event of a job's only post.
 fn final_post(job: u64, outcome: i32, loan: Option<Loan>) -> LogEvent
     ensures { result ≡ LogEvent.Post job outcome true loan }
 {
@@ -276,6 +278,7 @@ fn final_post(job: u64, outcome: i32, loan: Option<Loan>) -> LogEvent
     }
 }
 
+/// The only completion of a job, without flags.
 fn final_completion(job: u64, outcome: i32, loan: Option<Loan>) -> Completion
     ensures { result ≡ record { user_data = job; result = outcome; flags = 0; big = 0 ∷ 0 ∷ []; loan = loan } }
 {

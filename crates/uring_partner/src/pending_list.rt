@@ -22,6 +22,7 @@ pub struct PendingList {
 }
 
 impl PendingList {
+    /// A list without entries.
     pub fn new(alloc: Global) -> PendingList
         ensures { result.items.items ≡ [] }
     {
@@ -91,6 +92,7 @@ impl PendingList {
     }
 }
 
+/// 1 for an entry with a link or a drain, and 0 for any other.
 fn one_if_bound(item: &Pending) -> usize
     ensures { result ≡ (if is_bound item.now then 1 else 0) }
 {

@@ -9,12 +9,15 @@ use crate::pending_list::PendingList;
 use std::collections::VecDeque;
 use uring_model::{Pending, has_link, is_drained};
 
+/// Whether an entry is ready, by whether it waits for a linked one, whether none before it is
+/// drained, whether it is drained itself, and whether it is the first.
 fn may_settle(waits: bool, undrained: bool, drained: bool, first: bool) -> bool
     ensures { result ≡ (not waits && undrained && (not drained || first)) }
 {
     !waits && undrained && (!drained || first)
 }
 
+/// Whether none is drained, this one included.
 fn both_undrained(undrained: bool, drained: bool) -> bool
     ensures { result ≡ (undrained && not drained) }
 {

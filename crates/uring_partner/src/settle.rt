@@ -23,6 +23,7 @@ pub struct Settlement {
     pub copy: Option<Loan>,
 }
 
+/// How many bytes of a loan the operation acts on.
 fn part_len(loan: &Option<Loan>) -> usize
     ensures { result ≡ length (part_of loan.now) }
 {
@@ -42,12 +43,14 @@ fn least_due(operation: Operation, loan: &Option<Loan>) -> usize
     }
 }
 
+/// Whether a result is an error, or a count below the least.
 fn is_below(outcome: i32, least: usize) -> bool
     ensures { result ≡ below outcome least }
 {
     outcome < 0 || (outcome as usize) < least
 }
 
+/// Whether a cancel finds its job among the other pending entries.
 fn finds_job(rest: &VecDeque<Pending>, operation: Operation) -> bool
     ensures { FindsAs (λ number. has_unmarked number rest.now.items) result operation }
 {
@@ -57,6 +60,7 @@ fn finds_job(rest: &VecDeque<Pending>, operation: Operation) -> bool
     }
 }
 
+/// Performs an operation on the part of a loan from its place on.
 fn perform_on_loan(
     alloc: Global,
     files: &mut Files,
@@ -109,6 +113,7 @@ fn answer(
     perform_on_loan(alloc, files, operation, can_cancel, &mut item.taken.loan)
 }
 
+/// A copy of a loan.
 fn copy_of(alloc: Global, loan: &Option<Loan>) -> Result<Option<Loan>, AllocError>
     ensures { IfOk result (λ copy. copy ≡ loan.now) }
 {
@@ -131,6 +136,7 @@ fn match_copy(copy: &mut Option<Loan>, loan: &Option<Loan>)
     }
 }
 
+/// One of two answers, by a test.
 fn either(test: bool, yes: bool, no: bool) -> bool
     ensures { result ≡ (if test then yes else no) }
 {
