@@ -6,8 +6,8 @@ use Rattle.uring_base.specs.declared.events.Completion.{Completion}
 use Rattle.uring_base.specs.Completions.{is_more, is_final}
 use Rattle.uring_base.specs.Loans.{loan_buf}
 use Rattle.rent_engine.specs.declared.ops.Flight.{Flight}
-use Rattle.rent_engine.specs.declared.ops.EngineFault.{EngineFault}
-use Rattle.rent_engine.specs.declared.ops.EngineFault.TheVariants.{Stranger, Fault, NoMemory}
+use Rattle.rent_engine.specs.declared.fault.EngineFault.{EngineFault}
+use Rattle.rent_engine.specs.declared.fault.EngineFault.TheVariants.{Stranger, Fault, NoMemory}
 use Rattle.rent_engine.specs.Ops as engine
 use Rattle.rent_engine.specs.Ops.{Ops, flight_at, done_at, knows, has_strange_loan, is_strange_for, completed, resolved, outcome, Pumps}
 use Rattle.run_loop.specs.declared.slot.Reply.{Reply}

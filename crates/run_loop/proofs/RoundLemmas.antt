@@ -16,8 +16,8 @@ use Rattle.ring_traits.specs.Lists.{Lists, Moves, HasRoom, WhereTold, Becomes, a
 use Rattle.partner_traits.specs.Calls.{IsCall, IsWholeTurn}
 use Rattle.uring_submit.specs.declared.error.SubmitError.{SubmitError}
 use Rattle.uring_submit.specs.declared.error.SubmitError.TheVariants as submit
-use Rattle.rent_engine.specs.declared.ops.EngineFault.{EngineFault}
-use Rattle.rent_engine.specs.declared.ops.EngineFault.TheVariants as faults
+use Rattle.rent_engine.specs.declared.fault.EngineFault.{EngineFault}
+use Rattle.rent_engine.specs.declared.fault.EngineFault.TheVariants as faults
 use Rattle.rent_engine.specs.declared.ops.TurnReport.{TurnReport}
 use Rattle.rent_engine.specs.Ops.{Ops, Pumps}
 use Rattle.rent_engine.specs.Engines.{Reaped, ending, finals_in}

@@ -4,6 +4,7 @@ use Rattle.uring_model.specs.Joins.{MovesJoin, NoMoveStays, TurnsPostTheirs}
 use Rattle.uring_model.specs.Progress.{TurnsPost, NoneIsLost}
 use Rattle.uring_model.specs.Ends.{WholeWhereSet, IdleWhereWhole}
 use Rattle.uring_model.specs.Machine.{Files}
+use Rattle.uring_model.specs.Partner.{file_machine}
 use Rattle.uring_model.specs.Schedule.{Machine}
 use Rattle.uring_model.specs.Refines.{WorldLaws}
 use Rattle.uring_model.specs.Honest.{NoPostIsStrange, PostsAnswer}
@@ -12,8 +13,8 @@ pub record ModelLaws {W : Type 0} (mach : Machine W) (view : W → Files) (Plain
   pub join : MovesJoin
   pub stay : NoMoveStays
   pub turn_posts : TurnsPostTheirs
-  pub some_posts : TurnsPost
-  pub none_lost : NoneIsLost
+  pub some_posts : TurnsPost file_machine
+  pub none_lost : NoneIsLost file_machine
   pub idle_moves : IdleCallsAreMoves
   pub explained : IdlePartnersAreExplained
   pub honest : NoPostIsStrange

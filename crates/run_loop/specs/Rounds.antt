@@ -11,8 +11,8 @@ use Rattle.uring_model.specs.Schedule as schedule
 use Rattle.ring_traits.specs.Lists.{Lists, HasRoom, all_published, free_of}
 use Rattle.partner_traits.specs.declared.call.PartnerError.{PartnerError}
 use Rattle.partner_traits.specs.declared.call.PartnerError.TheVariants as errors
-use Rattle.rent_engine.specs.declared.ops.EngineFault.{EngineFault}
-use Rattle.rent_engine.specs.declared.ops.EngineFault.TheVariants as faults
+use Rattle.rent_engine.specs.declared.fault.EngineFault.{EngineFault}
+use Rattle.rent_engine.specs.declared.fault.EngineFault.TheVariants as faults
 use Rattle.partner_traits.specs.Calls.{IsCall, IsWholeTurn}
 use Rattle.run_loop.specs.declared.slot.Slot.{Slot}
 use Rattle.run_loop.specs.Slots.{land_all, stranger_among, any_final}
