@@ -15,3 +15,4 @@ pub mod Asks
 pub mod Results
 pub mod Says
 pub mod Opened
+pub mod PollLemmas

@@ -1,0 +1,59 @@
+-- A read or a write whose operation was asked for, and what it tells its job.
+use Rattle.std.proofs.Common.{◌≡◌, ℕ, ℤ, Bool, true, false, ◌||◌, if◌then◌else◌, List, [], ◌++◌, Option, Some, None, is_some, IfSome, Result, Ok, Err, refl, ap, sym, subst, ◌∙◌, length, ◌+◌, append-nil, add-zero}
+use Rattle.uring_base.specs.declared.events.Taken.{Taken}
+use Rattle.uring_model.specs.declared.jobs.Outcome.{Outcome}
+use Rattle.ring_traits.specs.Lists.{Lists, Becomes}
+use Rattle.rent_engine.specs.declared.ops.Flight.{Flight}
+use Rattle.rent_engine.specs.declared.ops.OpDone.{OpDone}
+use Rattle.rent_engine.specs.declared.ops.OpPoll.{OpPoll}
+use Rattle.rent_engine.specs.declared.ops.OpPoll.TheVariants as polls
+use Rattle.rent_engine.specs.declared.state.Poll.{Poll}
+use Rattle.rent_engine.specs.declared.state.Poll.TheVariants.{Ready, Pending}
+use Rattle.rent_engine.specs.declared.one_op.OneAnswer.{OneAnswer}
+use Rattle.rent_engine.specs.declared.one_op.Stage.{Stage}
+use Rattle.rent_engine.specs.declared.one_op.Stage.TheVariants.{Offers, Waits, Over}
+use Rattle.rent_engine.specs.Engines.{Offered, all_offered}
+use Rattle.rent_engine.specs.Ops.{Ops, polled, polled_done, taken_out}
+use Rattle.rent_engine.specs.OneOp.{PollsAs, answer_of, stage_key}
+use Rattle.rent_engine.specs.States.{poll_map}
+use Rattle.rent_fs.specs.declared.error.FsError.{FsError}
+use Rattle.rent_fs.specs.Outputs.{counted, moved, with_buf}
+use Rattle.run_loop.specs.declared.job_op.JobPoll.TheVariants as answers
+use Rattle.run_loop.specs.declared.slot.Reply.TheVariants.{Buffer}
+use Rattle.run_loop.specs.Steps.{Tells}
+
+-- a poll of a state whose operation was started asks the engine for it, and offers nothing
+pub asked : {T : Type 0} (output : OneAnswer → T) (stage next : Stage) (n : ℕ) (ops after : Ops) (ts : List Taken) (answer : Poll T)
+    → stage_key stage ≡ Some n → PollsAs output stage ops ts answer after next
+    → (ts ≡ []) × (after ≡ taken_out n ops) × (answer ≡ poll_map output (answer_of (polled ops n)))
+asked output (Offers request) next n ops after ts answer key polls = absurd cc
+asked output (Waits k) next n ops after ts answer key (one, is, step) =
+    let same : k ≡ n = cc in
+    (step.entries, subst (λ m. after ≡ taken_out m ops) same step.operations, is ∙ ap (poll_map output) (step.gives ∙ ap (λ m. answer_of (polled ops m)) same))
+asked output Over next n ops after ts answer key polls = absurd cc
+
+-- nothing was offered, so the lists are as they were
+pub same_lists : (before after : Option Lists) (ts : List Taken) → ts ≡ [] → Becomes before (all_offered ts) after → after ≡ before
+same_lists None after ts none told = told
+same_lists (Some l) after ts none told = told ∙ ap (λ xs. Some (record l { pushed = xs })) (ap (λ xs. l.pushed ++ xs) none ∙ append-nil l.pushed)
+
+pub same_room : (before after : ℕ) (ts : List Taken) → ts ≡ [] → before ≡ after + length ts → after ≡ before
+same_room before after ts none places = sym (places ∙ ap (λ xs. after + length xs) none ∙ add-zero after)
+
+-- a result that came with its buffer
+with_result : (r : ℤ) (buf' : Option (List ℕ)) (count : Result ℕ FsError) (buf : List ℕ) (outcome : Outcome) → true ≡ is_some buf' → ◌≡◌ {A = Poll (Result ℕ FsError × List ℕ)} (Ready (count, buf)) (Ready (with_buf r buf'))
+    → ((r' : ℤ) → count ≡ counted r' → outcome ≡ record { result = r'; buf = Some buf }) → outcome ≡ record { result = r; buf = buf' }
+with_result r None count buf outcome lent is out = absurd cc
+with_result r (Some b) count buf outcome lent is out =
+    let pair : ◌≡◌ {A = Result ℕ FsError × List ℕ} (count, buf) (counted r, b) = cc in
+    out r (ap (λ (p : Result ℕ FsError × List ℕ). p.0) pair) ∙ ap (λ (p : Result ℕ FsError × List ℕ). record { result = r; buf = Some p.1 }) pair
+
+-- what a job is told by the output of its read or write
+pub moved_tells : (n : ℕ) (flight : Option Flight) (done : Option OpDone) (count : Result ℕ FsError) (buf : List ℕ) (outcome : Outcome)
+    → (is_some flight || is_some done) ≡ true → IfSome done (λ d. true ≡ is_some d.buf)
+    → Ready (count, buf) ≡ poll_map moved (answer_of (if is_some flight then polls.Pending n else polled_done n done))
+    → ((r : ℤ) → count ≡ counted r → outcome ≡ record { result = r; buf = Some buf })
+    → Tells n Buffer (if is_some flight then polls.Pending n else polled_done n done) (answers.Ready outcome)
+moved_tells n (Some flight) done count buf outcome known brings is out = absurd cc
+moved_tells n None None count buf outcome known brings is out = absurd cc
+moved_tells n None (Some d) count buf outcome known brings is out = with_result d.result d.buf count buf outcome brings is out

@@ -1,0 +1,19 @@
+use Rattle.std.proofs.Common.{sym, ◌∙◌}
+use Rattle.rent_engine.specs.Ops.{flight_at, done_at}
+use Rattle.rent_fs.specs.Outputs.{moved}
+use Rattle.run_loop.proofs.PollLemmas.{asked, same_lists, same_room, moved_tells}
+use Rattle.run_loop.proofs.polls.poll_write.Goals as goal
+
+-- The operation was started, so the poll asks the engine for it; what it has of it, the job is told.
+pub returns-in-Ready : goal.returns-in-Ready
+returns-in-Ready g c n can =
+    let ops = c.args.engine.now.ops in
+    let p = c.poll.ensures.polls in
+    let a = asked moved c.args.write c.poll.new.self n ops c.poll.new.engine.ops p.0 c.poll.result can.key p.2 in
+    record {
+      told = same_lists _ _ p.0 a.0 p.1.told;
+      places = same_room _ _ p.0 a.0 p.1.places;
+      seen = p.1.seen;
+      operations = a.1;
+      tells = moved_tells n (flight_at ops n) (done_at ops n) c.in-Ready.count c.in-Ready.buf c.moved_outcome.result can.known can.brings (sym c.in-Ready.is ∙ a.2) c.moved_outcome.ensures;
+    }
