@@ -1,3 +1,5 @@
+ghost use Rattle.std.specs.Prelude.{None};
+
 use crate::{
     Failed, INPUT_LIMIT, InputFault, MemorySink, MemorySource, Sink, Source, StdSink, StdSource,
     read_all, write_all,
@@ -21,7 +23,7 @@ struct Broken {
 }
 
 impl Read for Broken {
-    ghost remaining = { λ _. Rattle.std.specs.Prelude.None };
+    ghost remaining = { λ _. None };
 
     fn read(&mut self, buf: &mut [u8]) -> io::Result<usize> {
         if self.begun || buf.len() < 2 {
