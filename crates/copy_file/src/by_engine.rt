@@ -67,7 +67,7 @@ pub fn copy<P: Partner>(
     while copied.bytes < len {
         let offset = u64::from(copied.bytes);
         let piece = (len - copied.bytes).min(PIECE);
-        // A read fills its whole buffer, and a write takes all of it.
+        // A read fills its buffer, and a write takes all of it.
         buf.resize(alloc, piece as usize)?;
         let mut read = source.read_at(buf, offset);
         let moved = finish(alloc, &mut engine, partner, &mut read)?;

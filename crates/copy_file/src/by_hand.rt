@@ -100,7 +100,7 @@ pub fn copy<P: Partner>(
     ensures { IfOk result (λ copied. IsWhole copied len (2 * pieces_in len)) }
 {
     let mut rings = Rings::new(alloc)?;
-    let mut buf = Buf::zeroed(alloc, PIECE as usize)?;
+    let mut buf = Buf::new(alloc);
     let mut copied = Copied {
         bytes: 0,
         operations: 0,
@@ -108,6 +108,8 @@ pub fn copy<P: Partner>(
     while copied.bytes < len {
         let offset = u64::from(copied.bytes);
         let piece = (len - copied.bytes).min(PIECE);
+        // A read fills the buffer that is lent with it, and a write takes all of it.
+        buf.resize(alloc, piece as usize)?;
         let read = opcode::Read::new(source, LOAN, piece).offset(offset);
         let (count, filled) = rings.run(alloc, partner, read.build(), buf)?;
         expect_whole(count, piece)?;
