@@ -6,7 +6,9 @@ use Rattle.std.proofs.lemmas.Bool.Decides.{nat_tests}
 use Rattle.std.proofs.lemmas.Int.{of_z-to_z}
 use Rattle.uring_base.specs.declared.buffer.Loan.{Loan}
 use Rattle.uring_base.specs.declared.events.Taken.{Taken}
+use Rattle.uring_base.specs.declared.errno.TheConstants.{EINVAL}
 use Rattle.uring_base.specs.declared.limits.TheConstants.{MAX_BUFFER}
+use Rattle.uring_base.specs.Errnos.{error_result}
 use Rattle.uring_model.specs.declared.jobs.Job.{Job}
 use Rattle.uring_model.specs.declared.jobs.JobKind.{JobKind}
 use Rattle.uring_model.specs.declared.jobs.JobKind.TheVariants.{Nop, Read, Write, Fsync, Ftruncate, Cancel}
@@ -17,7 +19,7 @@ use Rattle.uring_model.specs.Jobs as model
 use Rattle.uring_model.specs.Jobs.{model_job, model_jobs, buf_lent, model_op, is_valid_job}
 use Rattle.uring_model.specs.Replay.{last_unlinked}
 use Rattle.uring_model.specs.Partner.{job_of, unless_lacking}
-use Rattle.uring_model.specs.World.{is_job_operation, IsJobEntry}
+use Rattle.uring_model.specs.Asks.{is_job_operation, IsJobEntry}
 use Rattle.uring_model.specs.Explained.{Numbered}
 use Rattle.uring_model.specs.Strange.{has_other_number}
 use Rattle.uring_model.specs.Honest.{HasOwnLoan}
@@ -37,7 +39,7 @@ short_enough : (n : ℕ) → n ≤ MAX_BUFFER → nat_lt MAX_BUFFER n ≡ false
 short_enough n h = grind (arith, nat_tests)
 
 lent_op : (j : ℕ) (buf : List ℕ) (op : machine.Op) → length buf ≤ MAX_BUFFER → unless_lacking (Some (record { number = j; from = 0; buf = buf })) op ≡ op
-lent_op j buf op h = ap (λ b. cond b (machine.Refused 21) op) (short_enough (length buf) h)
+lent_op j buf op h = ap (λ b. cond b (machine.Refused (error_result EINVAL)) op) (short_enough (length buf) h)
 
 abbrev job_with : machine.Op → List ℕ → Bool → Link → model.Job
 job_with op buf drain link = record { op = op; buf = buf; drain = drain; link = link }

@@ -49,11 +49,11 @@ with_result r (Some b) count buf outcome lent is out =
     out r (ap (λ (p : Result ℕ FsError × List ℕ). p.0) pair) ∙ ap (λ (p : Result ℕ FsError × List ℕ). record { result = r; buf = Some p.1 }) pair
 
 -- what a job is told by the output of its read or write
-pub moved_tells : (n : ℕ) (flight : Option Flight) (done : Option OpDone) (count : Result ℕ FsError) (buf : List ℕ) (outcome : Outcome)
-    → (is_some flight || is_some done) ≡ true → IfSome done (λ d. true ≡ is_some d.buf)
-    → Ready (count, buf) ≡ poll_map moved (answer_of (if is_some flight then polls.Pending n else polled_done n done))
+pub moved_tells : (n : ℕ) (flight : Option Flight) (held : Option OpDone) (count : Result ℕ FsError) (buf : List ℕ) (outcome : Outcome)
+    → (is_some flight || is_some held) ≡ true → IfSome held (λ d. true ≡ is_some d.buf)
+    → Ready (count, buf) ≡ poll_map moved (answer_of (if is_some flight then polls.Pending n else polled_done n held))
     → ((r : ℤ) → count ≡ counted r → outcome ≡ record { result = r; buf = Some buf })
-    → Tells n Buffer (if is_some flight then polls.Pending n else polled_done n done) (answers.Ready outcome)
-moved_tells n (Some flight) done count buf outcome known brings is out = absurd cc
+    → Tells n Buffer (if is_some flight then polls.Pending n else polled_done n held) (answers.Ready outcome)
+moved_tells n (Some flight) held count buf outcome known brings is out = absurd cc
 moved_tells n None None count buf outcome known brings is out = absurd cc
 moved_tells n None (Some d) count buf outcome known brings is out = with_result d.result d.buf count buf outcome brings is out

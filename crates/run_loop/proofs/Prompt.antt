@@ -7,7 +7,7 @@ use Rattle.uring_model.specs.Chosen.{choice, stops}
 use Rattle.uring_model.specs.Moves.{Move, Turned, Took, Posted, took, posted}
 use Rattle.uring_model.specs.Machine.{Files}
 use Rattle.uring_model.specs.Schedule.{Machine, State, Cursor, cursors, named, Steps, IsServed, after_take, cut_of, Outturn, turn, take_all, settle_turn, settle_then, settled_by, stays}
-use Rattle.uring_model.specs.Refines.{seen, IsPlainAndIdle}
+use Rattle.uring_model.specs.Refines.{viewed, IsPlainAndIdle}
 use Rattle.uring_model.specs.Schedule as schedule
 use Rattle.uring_model.specs.Asks.{IsJobEntry}
 use Rattle.std.specs.List.{AllByRecursion}

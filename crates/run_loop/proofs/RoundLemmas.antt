@@ -9,20 +9,21 @@ use Rattle.uring_base.specs.declared.events.Completion.{Completion}
 use Rattle.uring_base.specs.declared.events.LogEvent.{LogEvent}
 use Rattle.uring_base.specs.Completions.{is_final}
 use Rattle.uring_model.specs.Moves.{Move, took, posted}
+use Rattle.uring_model.specs.Progress.{moves_of_turn}
 use Rattle.uring_model.specs.Schedule as schedule
 use Rattle.uring_model.specs.declared.jobs.RunFault.{RunFault}
 use Rattle.ring_setup.specs.declared.parameters.Parameters.{Parameters}
 use Rattle.ring_traits.specs.Lists.{Lists, Moves, HasRoom, WhereTold, Becomes, all_published, free_of}
-use Rattle.partner_traits.specs.Calls.{IsCall, IsWholeTurn}
+use Rattle.partner_traits.specs.Calls.{IsCall, IsFullTurn, IsWholeTurn}
 use Rattle.uring_submit.specs.declared.error.SubmitError.{SubmitError}
 use Rattle.uring_submit.specs.declared.error.SubmitError.TheVariants as submit
 use Rattle.rent_engine.specs.declared.fault.EngineFault.{EngineFault}
 use Rattle.rent_engine.specs.declared.fault.EngineFault.TheVariants as faults
 use Rattle.rent_engine.specs.declared.ops.TurnReport.{TurnReport}
 use Rattle.rent_engine.specs.Ops.{Ops, Pumps}
-use Rattle.rent_engine.specs.Engines.{Reaped, ending, finals_in}
+use Rattle.rent_engine.specs.Engines.{Reaped, finals_in}
+use Rattle.rent_engine.specs.Faults.{ending, engine_fault_of}
 use Rattle.rent_engine.specs.Turns.{Submitted, TurnEnds, Turned}
-use Rattle.rent_engine.specs.Turns as turns
 use Rattle.run_loop.specs.declared.slot.Slot.{Slot}
 use Rattle.run_loop.specs.Slots.{land_all, stranger_among, any_final}
 use Rattle.run_loop.specs.Flights.{all_polled, AreOperated, NoneResolved}
@@ -78,7 +79,7 @@ entered_then kept a ts ms (Some l) m = record {
 -- how a turn ended: all that was reaped was taken, or the partner's error was handed on
 abbrev pub Ended : Bool → Ops → List Completion → Ops → Result TurnReport EngineFault → Type 0
 Ended true ops cs ops' result = Pumps ops cs ops' (ending result) × IfOk result (λ report. report.finals ≡ finals_in cs)
-Ended false ops cs ops' result = (e : SubmitError) × (result ≡ Err (turns.engine_fault_of e))
+Ended false ops cs ops' result = (e : SubmitError) × (result ≡ Err (engine_fault_of e))
 
 pub record Did (kept : Completion → Completion) (a : Lists) (ts : List Taken) (ms : List Move) (ops ops' : Ops) (result : Result TurnReport EngineFault) (entered : Bool) (last : Option Lists) (room waiting : ℕ) : Type 0 where
   pub cs : List Completion
@@ -94,8 +95,14 @@ finals_of cs taken (Err e) h = tt
 full_after : (a : Lists) (ts : List Taken) (room room' : ℕ) → room ≡ free_of a → room ≡ room' + length ts → room' ≡ 0 → free_of (pushed_more ts a) ≡ 0
 full_after a ts room room' e f z = let n : length (a.pushed ++ ts) ≡ length a.pushed + length ts = length-append a.pushed ts in omega (arith, e, f, z, n)
 
-module _ {W : Type 0} (mach : schedule.Machine W) {P R : Type 0} (log : P → Option (List LogEvent)) (state : P → Option (schedule.State W)) (lists : R → Option Lists) (kept : Completion → Completion) (moved : R → List Taken → List Completion → R → Type 0) (flags_word : R → ℕ) (used : R → List Taken → List Completion → R → Type 0) (room waiting : R → ℕ) where
-  did_by : (answer : Result ℕ SubmitError) (left to : R) (ops ops' : Ops) (result : Result TurnReport EngineFault) (a : Lists) (ts : List Taken) (ms : List Move) → WhereTold (λ l m. Moves kept l (took ms) (posted ms) m) (Some (offered_to a ts)) (lists left) → TurnEnds mach log state lists moved flags_word used room waiting answer left to ops ops' result
+-- where the lists are told, a turn with at least the room that was known is a turn with the room that they have
+whole_of_full : {W : Type 0} (mach : schedule.Machine W) (o : Option (schedule.State W)) (known space : ℕ) (l : Option Lists) (ms : List Move) → IsFullTurn mach o known space l ms → IsWholeTurn mach o l ms
+whole_of_full mach None known space l ms full = tt
+whole_of_full mach (Some a) known space None ms full = tt
+whole_of_full mach (Some a) known space (Some l) ms full = record { ts = full.ts; moves = full.moves ∙ ap (λ t. moves_of_turn (length full.ts) full.ts t.posts) full.told }
+
+module _ {W : Type 0} (mach : schedule.Machine W) {P R : Type 0} (log : P → Option (List LogEvent)) (state : P → Option (schedule.State W)) (lists : R → Option Lists) (ready space : R → ℕ) (kept : Completion → Completion) (moved : R → List Taken → List Completion → R → Type 0) (flags_word : R → ℕ) (used : R → List Taken → List Completion → R → Type 0) (room waiting : R → ℕ) where
+  did_by : (answer : Result ℕ SubmitError) (left to : R) (ops ops' : Ops) (result : Result TurnReport EngineFault) (a : Lists) (ts : List Taken) (ms : List Move) → WhereTold (λ l m. Moves kept l (took ms) (posted ms) m) (Some (offered_to a ts)) (lists left) → TurnEnds mach log state lists ready space moved flags_word used room waiting answer left to ops ops' result
       → Did kept a ts ms ops ops' result (is_ok answer) (lists to) (room to) (waiting to)
   did_by (Ok taken) left to ops ops' result a ts ms m e = record {
     cs = e.0.completions;
@@ -111,7 +118,7 @@ module _ {W : Type 0} (mach : schedule.Machine W) {P R : Type 0} (log : P → Op
   }
 
   module _ (moved_told : (a b : R) (ts : List Taken) (cs : List Completion) → moved a ts cs b → WhereTold (λ l m. Moves kept l ts cs m) (lists a) (lists b)) (fits : (r : R) → IfSome (lists r) HasRoom)
-      (params : Parameters) (old new : P) (from mid to : R) (ops ops' : Ops) (result : Result TurnReport EngineFault) (t : Turned mach log state lists moved flags_word used room waiting params old new mid to ops ops' result)
+      (params : Parameters) (old new : P) (from mid to : R) (ops ops' : Ops) (result : Result TurnReport EngineFault) (t : Turned mach log state lists ready space moved flags_word used room waiting params old new mid to ops ops' result)
       (a : Lists) (ts : List Taken) (told : lists from ≡ Some a) (begun : Becomes (lists from) (pushed_more ts) (lists mid)) where
     at_is : lists t.submitted.shown ≡ Some (offered_to a ts)
     at_is = entered_at a ts (lists from) (lists mid) (lists t.submitted.shown) told begun t.submitted.told
@@ -130,6 +137,10 @@ module _ {W : Type 0} (mach : schedule.Machine W) {P R : Type 0} (log : P → Op
         did_by t.answer t.left to ops ops' result a ts moves
         (subst (λ o. WhereTold (λ l m. Moves kept l (took moves) (posted moves) m) o (lists t.left)) at_is (moved_told t.submitted.shown t.left (took moves) (posted moves) t.submitted.enters.made.sides))
         t.ends
+
+    full_whole : (answer : Result ℕ SubmitError) (o : Option Lists) → OnOk answer (IsFullTurn mach (state old) (ready t.submitted.shown) (space t.submitted.shown) o moves) → OnOk answer (IsWholeTurn mach (state old) o moves)
+    full_whole (Ok taken) o h = whole_of_full mach (state old) (ready t.submitted.shown) (space t.submitted.shown) o moves h
+    full_whole (Err e) o h = tt
 
     whole_by : (answer : Result ℕ SubmitError) (o : Option Lists) → OnOk answer (IsWholeTurn mach (state old) o moves) → OnTrue (is_ok answer) (IsWholeTurn mach (state old) o moves)
     whole_by (Ok taken) o h = h
@@ -155,7 +166,7 @@ module _ {W : Type 0} (mach : schedule.Machine W) {P R : Type 0} (log : P → Op
       to_submit = t.submitted.published;
       enough = let n : t.submitted.published ≡ length (offered_to a ts).published = subst (λ o. IfSome o (λ l. t.submitted.published ≡ length l.published)) at_is t.submitted.counted in omega (arith, n);
       call = subst (λ o. IsCall entered t.submitted.published o moves) at_is t.submitted.enters.call;
-      whole = whole_by t.answer (Some (offered_to a ts)) (subst (λ o. OnOk t.answer (IsWholeTurn mach (state old) o moves)) at_is t.submitted.enters.whole);
+      whole = whole_by t.answer (Some (offered_to a ts)) (subst (λ o. OnOk t.answer (IsWholeTurn mach (state old) o moves)) at_is (full_whole t.answer (lists t.submitted.shown) t.submitted.enters.full));
       taken = turn_did.went.taken;
       pushed = turn_did.went.pushed;
       capacity = turn_did.went.capacity;
@@ -174,10 +185,13 @@ fault_by begun slots slots' jobs ops ops' cs ds posts true (faults.Stranger u) a
     (refl, ap (stranger_among begun slots) e ∙ stranger-append begun slots cs ds u (ap (λ s. stranger_among begun s cs) (sym (none_polled ops slots n)) ∙ all_completed ops begun slots jobs a cs ops' (Err (faults.Stranger u)) h.0))
 fault_by begun slots slots' jobs ops ops' cs ds posts true (faults.Fault errno) a n e h = tt
 fault_by begun slots slots' jobs ops ops' cs ds posts true faults.NoMemory a n e h = tt
-fault_by begun slots slots' jobs ops ops' cs ds posts false fault a n e (submit.Exists, h) = let same : fault ≡ faults.NoMemory = cc in subst (λ f. RoundEnds begun slots posts slots' false (Err (engine_fault f))) (sym same) tt
-fault_by begun slots slots' jobs ops ops' cs ds posts false fault a n e (submit.NotRegistered, h) = let same : fault ≡ faults.NoMemory = cc in subst (λ f. RoundEnds begun slots posts slots' false (Err (engine_fault f))) (sym same) tt
-fault_by begun slots slots' jobs ops ops' cs ds posts false fault a n e (submit.Fault errno, h) = let same : fault ≡ faults.Fault errno = cc in subst (λ f. RoundEnds begun slots posts slots' false (Err (engine_fault f))) (sym same) tt
-fault_by begun slots slots' jobs ops ops' cs ds posts false fault a n e (submit.NoMemory, h) = let same : fault ≡ faults.NoMemory = cc in subst (λ f. RoundEnds begun slots posts slots' false (Err (engine_fault f))) (sym same) tt
+fault_by begun slots slots' jobs ops ops' cs ds posts false fault a n e (error, h) = let same : fault ≡ engine_fault_of error = cc in subst (λ f. RoundEnds begun slots posts slots' false (Err (engine_fault f))) (sym same) (handed_on error)
+  where
+    handed_on : (error : SubmitError) → RoundEnds begun slots posts slots' false (Err (engine_fault (engine_fault_of error)))
+    handed_on submit.Exists = tt
+    handed_on submit.NotRegistered = tt
+    handed_on (submit.Fault errno) = tt
+    handed_on submit.NoMemory = tt
 
 -- whether a completion was final
 abbrev finals : List Completion → ℕ
@@ -204,7 +218,7 @@ any_by_count cs n e =
 
 ended_ok : (entered : Bool) (ops : Ops) (cs : List Completion) (ops' : Ops) (report : TurnReport) → Ended entered ops cs ops' (Ok report) → (entered ≡ true) × Pumps ops cs ops' (Ok tt) × (report.finals ≡ finals_in cs)
 ended_ok true ops cs ops' report h = (refl, h.0, h.1)
-ended_ok false ops cs ops' report h = let e : Ok report ≡ Err (turns.engine_fault_of h.0) = h.1 in cc
+ended_ok false ops cs ops' report h = let e : Ok report ≡ Err (engine_fault_of h.0) = h.1 in cc
 
 -- all that was posted was taken, nothing of it strange; and the user sees how much fits
 pub record Landed (begun : ℕ) (slots : List Slot) (jobs : List ℕ) (posts : List Completion) (ops' : Ops) (report : TurnReport) (entered : Bool) (after : Lists) (room : ℕ) : Type 0 where

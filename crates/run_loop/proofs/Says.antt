@@ -19,7 +19,7 @@ use Rattle.uring_model.specs.Partner.{job_of, idle}
 use Rattle.uring_model.specs.Partner as filed
 use Rattle.uring_model.specs.Machine.{Files}
 use Rattle.uring_model.specs.Schedule as schedule
-use Rattle.uring_model.specs.Refines.{seen, IsPlainAndIdle}
+use Rattle.uring_model.specs.Refines.{viewed, IsPlainAndIdle}
 use Rattle.uring_model.specs.Asks.{IsJobEntry}
 use Rattle.uring_model.specs.Progress.{turns}
 use Rattle.uring_model.specs.Explained.{Numbered, record_all, AllFresh, Explained}
