@@ -1,18 +1,17 @@
 -- A read or a write whose operation was asked for, and what it tells its job.
-use Rattle.std.proofs.Common.{◌≡◌, ℕ, ℤ, Bool, true, false, ◌||◌, if◌then◌else◌, List, [], ◌++◌, Option, Some, None, is_some, IfSome, Result, Ok, Err, refl, ap, sym, subst, ◌∙◌, length, ◌+◌, append-nil, add-zero}
+use Rattle.std.proofs.Common.{◌≡◌, ℕ, ℤ, true, ◌||◌, if◌then◌else◌, List, [], ◌++◌, Option, Some, None, is_some, IfSome, Result, ap, sym, subst, ◌∙◌, length, ◌+◌, append-nil, add-zero}
 use Rattle.uring_base.specs.declared.events.Taken.{Taken}
 use Rattle.uring_model.specs.declared.jobs.Outcome.{Outcome}
 use Rattle.ring_traits.specs.Lists.{Lists, Becomes}
 use Rattle.rent_engine.specs.declared.ops.Flight.{Flight}
 use Rattle.rent_engine.specs.declared.ops.OpDone.{OpDone}
-use Rattle.rent_engine.specs.declared.ops.OpPoll.{OpPoll}
 use Rattle.rent_engine.specs.declared.ops.OpPoll.TheVariants as polls
 use Rattle.rent_engine.specs.declared.state.Poll.{Poll}
-use Rattle.rent_engine.specs.declared.state.Poll.TheVariants.{Ready, Pending}
+use Rattle.rent_engine.specs.declared.state.Poll.TheVariants.{Ready}
 use Rattle.rent_engine.specs.declared.one_op.OneAnswer.{OneAnswer}
 use Rattle.rent_engine.specs.declared.one_op.Stage.{Stage}
 use Rattle.rent_engine.specs.declared.one_op.Stage.TheVariants.{Offers, Waits, Over}
-use Rattle.rent_engine.specs.Engines.{Offered, all_offered}
+use Rattle.rent_engine.specs.Engines.{all_offered}
 use Rattle.rent_engine.specs.Ops.{Ops, polled, polled_done, taken_out}
 use Rattle.rent_engine.specs.OneOp.{PollsAs, answer_of, stage_key}
 use Rattle.rent_engine.specs.States.{poll_map}

@@ -5,7 +5,6 @@ use Rattle.std.proofs.lemmas.Bool.Decides.{nat_tests}
 use Rattle.uring_base.specs.declared.events.Completion.{Completion}
 use Rattle.uring_base.specs.Completions.{is_final}
 use Rattle.uring_model.specs.declared.jobs.Job.{Job}
-use Rattle.uring_model.specs.declared.jobs.Outcome.{Outcome}
 use Rattle.uring_model.specs.Moves.{Move, Turned, Took, Posted, took, posted, log_of}
 use Rattle.uring_model.specs.Progress.{turns}
 use Rattle.uring_model.specs.Strange.{Seen, has_other_number, has_wrong_loan, is_strange, first_strange}

@@ -23,7 +23,7 @@ use Rattle.rent_engine.specs.declared.ops.TurnReport.{TurnReport}
 use Rattle.rent_engine.specs.Ops.{Ops, Pumps}
 use Rattle.rent_engine.specs.Engines.{Reaped, finals_in}
 use Rattle.rent_engine.specs.Faults.{ending, engine_fault_of}
-use Rattle.rent_engine.specs.Turns.{Submitted, TurnEnds, Turned}
+use Rattle.rent_engine.specs.Turns.{TurnEnds, Turned}
 use Rattle.run_loop.specs.declared.slot.Slot.{Slot}
 use Rattle.run_loop.specs.Slots.{land_all, stranger_among, any_final}
 use Rattle.run_loop.specs.Flights.{all_polled, AreOperated, NoneResolved}

@@ -1,11 +1,10 @@
 -- What a run tells, from what its rounds did.
-use Rattle.std.proofs.Common.{◌≡◌, ℕ, ◌*◌, ◌<◌, ◌≤◌, Bool, true, false, List, [], ◌∷◌, ◌++◌, length, map, replicate, drop, All, IsSome, Result, Ok, Err, Option, Some, None, IfOk, IfErr, IfSome, refl, ap, sym, subst, ◌∙◌, arith}
+use Rattle.std.proofs.Common.{◌≡◌, ℕ, ◌*◌, ◌<◌, ◌≤◌, true, false, List, [], ◌∷◌, ◌++◌, length, map, replicate, drop, All, IsSome, Result, Ok, Err, Option, Some, None, IfOk, IfErr, IfSome, refl, ap, sym, subst, ◌∙◌, arith}
 use Rattle.std.specs.List.{AllByRecursion}
 use Rattle.std.proofs.lemmas.List.Elements.{All-from_recursion, recursion_from_All}
 use Rattle.std.proofs.Math.Seq.{drop-append_seam}
 use Rattle.uring_base.specs.declared.events.Event.{Event}
 use Rattle.uring_base.specs.declared.events.LogEvent.{LogEvent}
-use Rattle.uring_base.specs.declared.events.Taken.{Taken}
 use Rattle.uring_model.specs.declared.jobs.Job.{Job}
 use Rattle.uring_model.specs.declared.jobs.Outcome.{Outcome}
 use Rattle.uring_model.specs.declared.jobs.Report.{Report}

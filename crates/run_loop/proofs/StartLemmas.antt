@@ -21,7 +21,7 @@ use Rattle.run_loop.specs.declared.slot.Slot.{Slot}
 use Rattle.run_loop.specs.declared.slot.Slot.TheVariants.{Open, Done}
 use Rattle.uring_base.specs.Completions.{is_final}
 use Rattle.run_loop.specs.Told.{Ending, reply_for, lends, outcome_from}
-use Rattle.run_loop.specs.Entries.{job_words, with_drain, with_link, job_entry, job_loan, offer_of, unlinked_if, offers_from}
+use Rattle.run_loop.specs.Entries.{job_words, with_drain, with_link, job_entry, offer_of, unlinked_if, offers_from}
 use Rattle.run_loop.specs.Slots.{slots_from, is_strange_at, is_unexpected, land_in, land_one, land_all, stranger_among}
 use Rattle.run_loop.specs.Flights.{WasLent, AreReplied, jobs_in_flight, slot_flight, flight_in, all_polled, times_in, AreOperated, NoneResolved, IsAhead, AreAhead, IsSettled}
 use Rattle.run_loop.proofs.Posts.{passes}

@@ -1,5 +1,5 @@
 -- The entry and the loan that each job becomes.
-use Rattle.std.specs.Prelude.{◌≡◌, ℕ, zero, suc, ◌+◌, ◌<◌, ◌^◌, Bool, true, false, if◌then◌else◌, List, [], ◌∷◌, length, map, bit_or, Option, Some, None}
+use Rattle.std.specs.Prelude.{◌≡◌, ℕ, zero, suc, ◌+◌, ◌<◌, ◌^◌, Bool, true, if◌then◌else◌, List, [], ◌∷◌, length, map, bit_or, Option, Some, None}
 use Rattle.uring_base.specs.FlagBits.{bits_in}
 use Rattle.uring_base.specs.declared.flags.TheConstants.Flags.{IO_DRAIN, IO_LINK, IO_HARDLINK}
 use Rattle.uring_base.specs.declared.squeue.Entry.{Entry}
