@@ -86,7 +86,7 @@ fn each_call(rt: HostRuntime) -> Result<(), Fail> {
     let replayed = run(alloc, files, jobs, &journal)?;
     assert!(rt; replayed.is_whole());
     let file = replayed.files.get(3);
-    assert!(rt; matches!(file, Some(bytes) if bytes.as_slice() == b"hello\0\x07"));
+    assert!(rt; matches!(file, Some(bytes) if bytes.as_slice() == b"hello\0\x07".as_slice()));
     let outcomes = replayed.into_outcomes(alloc)?;
     assert_eq!(rt; outcomes.len(), 2);
     assert!(rt; is_outcome(&outcomes[0], 2, b"\0\x07\0"));
@@ -121,21 +121,18 @@ fn parts_of_runs(rt: HostRuntime) -> Result<(), Fail> {
 #[test]
 fn texts(rt: HostRuntime) -> Result<(), Fail> {
     let alloc = rt.alloc();
-    assert_eq!(rt;
-        format!(in alloc; "{}", RunFault::BadSize)?,
-        "bad ring size"
-    );
-    assert_eq!(rt; format!(in alloc; "{}", RunFault::BadJob(3))?, "bad job 3");
-    let stranger = format!(in alloc; "{}", RunFault::Stranger(18446744073709551615))?;
-    assert_eq!(rt;
-        stranger,
-        "partner posted for job 18446744073709551615 what was not due"
-    );
-    assert_eq!(rt; format!(in alloc; "{}", RunFault::Stalled)?, "stalled");
-    assert_eq!(rt;
-        format!(in alloc; "{}", RunFault::PartnerFault)?,
-        "partner fault"
-    );
-    assert_eq!(rt; format!(in alloc; "{}", RunFault::NoMemory)?, "no memory");
+    for (fault, text) in [
+        (RunFault::BadSize, "bad ring size"),
+        (RunFault::BadJob(3), "bad job 3"),
+        (
+            RunFault::Stranger(18446744073709551615),
+            "partner posted for job 18446744073709551615 what was not due",
+        ),
+        (RunFault::Stalled, "stalled"),
+        (RunFault::PartnerFault, "partner fault"),
+        (RunFault::NoMemory, "no memory"),
+    ] {
+        assert_eq!(rt; fault.to_string(alloc)?.as_str(), text);
+    }
     Ok(())
 }
