@@ -1,4 +1,4 @@
-use Rattle.std.proofs.Common.{◌≡◌, ◌≤◌, ℕ, List, [], ◌++◌}
+use Rattle.std.proofs.Common.{◌≡◌, ◌≤◌, List, [], ◌++◌}
 use Rattle.std.specs.Prelude.{IfSome}
 use Rattle.uring_text.specs.declared.script.Seed.{Seed}
 use Rattle.uring_cli.specs.Seeds.{IsSeeded}
