@@ -1,6 +1,6 @@
 //! A copy by an engine: each operation is a state, which is polled until it gives its output.
 
-ghost use Rattle.std.specs.Prelude.{◌≡◌, ◌+◌, ◌*◌, false, length, IfOk};
+ghost use Rattle.std.specs.Prelude.{◌≡◌, ◌≤◌, ◌+◌, ◌*◌, false, length, IfOk};
 ghost use Rattle.copy_file.specs.Copies.{IsWhole, pieces_in};
 
 use crate::copied::{Copied, PIECE};
@@ -45,6 +45,30 @@ fn whole_piece(moved: (Result<usize, FsError>, Buf), piece: usize) -> io::Result
     }
 }
 
+/// Copies one piece, as long as the buffer is: a read that fills it, and a write that takes all of it. Gives
+/// the buffer back.
+fn copy_piece<P: Partner>(
+    alloc: Global,
+    engine: &mut Engine<IoUring>,
+    partner: &mut P,
+    source: File,
+    copy: File,
+    buf: Buf,
+    offset: u32,
+) -> io::Result<Buf>
+    requires { length buf ≤ PIECE }
+    ensures { IfOk result (λ back. length back ≡ length buf) }
+{
+    let piece = buf.len();
+    let offset = u64::from(offset);
+    let mut read = source.read_at(buf, offset);
+    let moved = finish(alloc, engine, partner, &mut read)?;
+    let filled = whole_piece(moved, piece)?;
+    let mut write = copy.write_at(filled, offset);
+    let moved = finish(alloc, engine, partner, &mut write)?;
+    whole_piece(moved, piece)
+}
+
 /// Copies the first `len` bytes of one file to the front of another, piece by piece, and brings the
 /// copy to its device.
 pub fn copy<P: Partner>(
@@ -65,16 +89,10 @@ pub fn copy<P: Partner>(
         operations: 0,
     };
     while copied.bytes < len {
-        let offset = u64::from(copied.bytes);
-        let piece = (len - copied.bytes).min(PIECE);
-        // A read fills its buffer, and a write takes all of it.
+        let offset = copied.bytes;
+        let piece = (len - offset).min(PIECE);
         buf.resize(alloc, piece as usize)?;
-        let mut read = source.read_at(buf, offset);
-        let moved = finish(alloc, &mut engine, partner, &mut read)?;
-        let filled = whole_piece(moved, piece as usize)?;
-        let mut write = copy.write_at(filled, offset);
-        let moved = finish(alloc, &mut engine, partner, &mut write)?;
-        buf = whole_piece(moved, piece as usize)?;
+        buf = copy_piece(alloc, &mut engine, partner, source, copy, buf, offset)?;
         copied.bytes += piece;
         copied.operations += 2;
     }
