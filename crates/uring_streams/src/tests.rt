@@ -36,21 +36,38 @@ impl Read for Broken {
     }
 }
 
-/// Each call that can find no memory answers otherwise where there is memory, and the call that
-/// is listed fails.
+/// Reads "abc" from a source whose call of this number fails.
+fn read_abc(alloc: Global, failing: u64) -> Result<Buf, InputFault> {
+    let bytes = Buf::from_slice(alloc, b"abc")?;
+    let failing = only(alloc, failing)?;
+    read_all(alloc, &mut MemorySource::new(bytes, failing))
+}
+
+/// Writes "abc" to a sink that takes two bytes a call, has room for these, and fails at no call.
+fn write_abc(alloc: Global) -> Result<MemorySink, AllocError> {
+    let mut sink = MemorySink::with_room(alloc, 3, 2, Nums::new(alloc))?;
+    let _written = write_all(&mut sink, b"abc");
+    Ok(sink)
+}
+
+/// Each call that can find no memory answers otherwise where there is memory.
 #[test]
 fn each_call(rt: HostRuntime) -> Result<(), Fail> {
     let alloc = rt.alloc();
-    let mut source = MemorySource::new(Buf::from_slice(alloc, b"abc")?, only(alloc, 2)?);
-    assert!(rt; matches!(read_all(alloc, &mut source), Err(InputFault::ReadFault)));
-    let mut source = MemorySource::new(Buf::from_slice(alloc, b"abc")?, only(alloc, 3)?);
-    assert_eq!(rt; read_all(alloc, &mut source)?.as_slice(), b"abc".as_slice());
+    assert!(rt; matches!(read_abc(alloc, 2), Err(InputFault::ReadFault)));
+    assert_eq!(rt; read_abc(alloc, 3)?.as_slice(), b"abc".as_slice());
+    assert_eq!(rt; write_abc(alloc)?.bytes(), b"abc".as_slice());
+    Ok(())
+}
+
+/// The call of a sink that is listed fails, and the next goes on.
+#[test]
+fn second_write_fails(rt: HostRuntime) -> Result<(), Fail> {
+    let alloc = rt.alloc();
     let mut sink = MemorySink::new(alloc, 2, only(alloc, 2)?);
     assert_eq!(rt; write_all(&mut sink, b"abc"), Err(Failed));
     assert_eq!(rt; write_all(&mut sink, b"c"), Ok(()));
     assert_eq!(rt; sink.bytes(), b"abc".as_slice());
-    let mut sink = MemorySink::with_room(alloc, 3, 2, Nums::new(alloc))?;
-    assert_eq!(rt; write_all(&mut sink, b"abc"), Ok(()));
     Ok(())
 }
 
