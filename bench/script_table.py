@@ -21,12 +21,28 @@ PROGRAM = CRATES / "uring_cli"
 
 # Each row has the sizes of both rings, the position at which they begin, and a script.
 GROUPS = [
+    ("plain", "Jobs without marks, up to the last byte of a file and over small rings.", [
+        ((8, 16, 0), "file 3 68656c6c6f;read 3 0 5"),
+        ((8, 16, 0), "file 3 68656c6c6f;read 3 3 4"),
+        ((8, 16, 0), "read 9 0 1"),
+        ((8, 16, 0), "file 1 ab;truncate 1 3"),
+        ((8, 16, 0), "file 1 -;write 1 16777216 00"),
+        ((8, 16, 0), "file 1 -;write 1 16777215 00"),
+        ((1, 2, 0), "nop;nop;nop"),
+        ((2, 4, 4294967295), "nop;nop"),
+        ((32768, 65536, 0), "file 3 68656c6c6f;read 3 0 5"),
+    ]),
     ("drained", "Drained jobs wait for all before them, and all behind wait for them.", [
         ((2, 4, 0), "nop;nop;nop drain;nop;nop"),
         ((1, 2, 0), "file 1 -;write 1 0 aa;read 1 0 1 drain;write 1 0 bb"),
         ((8, 16, 0), "choose 2;nop;nop drain"),
         ((8, 16, 0), "choose 5;nop;nop;nop drain;nop"),
         ((8, 16, 0), "choose 3;choose 3;file 1 -;write 1 0 aa;write 1 1 bb drain;read 1 0 2 drain"),
+        ((8, 16, 0), "nop;nop drain;nop"),
+        ((4, 4, 0), "nop drain;nop;nop drain;nop;nop;nop drain"),
+        ((8, 16, 0), "choose 3;nop;nop drain;nop"),
+        ((8, 16, 0), "choose 0;nop drain;nop drain"),
+        ((8, 16, 0), "choose 7;nop;nop;nop;nop drain;nop"),
     ]),
     ("soft_links", "A soft link is cut where its job fails or comes short.", [
         ((8, 16, 0), "file 3 ab;read 3 0 2 link;write 3 0 cc"),
@@ -35,12 +51,14 @@ GROUPS = [
         ((8, 16, 0), "file 1 -;write 1 5 - link;read 1 0 0 link;truncate 1 2;read 1 0 4"),
         ((4, 8, 0), "file 2 0102;fsync 2 link;fsync 3 link;fsync 2;fsync 2"),
         ((8, 16, 0), "nop link"),
+        ((8, 16, 0), "file 3 ab;read 3 0 1 link;write 3 0 cc"),
     ]),
     ("hard_links", "A hard link isn't cut by its own job's result.", [
         ((8, 16, 0), "file 3 ab;read 3 0 2 hard;write 3 0 cc"),
         ((8, 16, 0), "nop link;read 9 0 1 hard;truncate 9 0 link;nop"),
         ((8, 16, 0), "choose 0;choose 0;nop hard;nop hard;nop"),
         ((8, 16, 0), "file 1 aabb;truncate 1 16777217 hard;truncate 1 1 link;read 1 0 2 link;nop"),
+        ((8, 16, 0), "read 9 0 1 hard;nop link;fsync 9 link;nop;nop"),
     ]),
     ("links_over_turns", "A linked job is waited for over turns and choices.", [
         ((8, 16, 0), "choose 3;nop link;nop;nop"),
@@ -53,6 +71,7 @@ GROUPS = [
         ((8, 16, 0), "choose 3;file 1 -;write 1 0 ff;cancel 0;read 1 0 1"),
         ((8, 16, 0), "choose 5;nop link;nop;cancel 1"),
         ((8, 16, 0), "choose 3;file 1 0a;truncate 1 0;cancel 0 hard;read 1 0 1"),
+        ((8, 16, 0), "cancel 1;nop"),
     ]),
     ("cancels", "A cancel of what isn't open finds none, and of several the first marks.", [
         ((8, 16, 0), "cancel 7 link;nop;nop"),
@@ -61,6 +80,10 @@ GROUPS = [
         ((8, 16, 0), "choose 5;choose 5;nop;nop;cancel 0;cancel 0"),
         ((8, 16, 0), "choose 3;nop;cancel 0 link;nop"),
         ((8, 16, 0), "choose 3;choose 3;nop;cancel 2;cancel 1"),
+        ((8, 16, 0), "cancel 0"),
+        ((8, 16, 0), "choose 3;nop;cancel 18446744073709551615"),
+        ((8, 16, 0), "choose 5;nop;nop;cancel 0;cancel 0"),
+        ((8, 16, 0), "choose 3;cancel 1;cancel 0"),
     ]),
     ("chosen", "A choice names the ready job that settles next, and an even one ends the turn.", [
         ((8, 16, 0), "choose 0;choose 0;choose 0;nop;nop;nop"),
@@ -71,6 +94,9 @@ GROUPS = [
         ((2, 2, 0), "choose 3;choose 4;nop;nop;nop;nop"),
         ((4, 4, 0), "choose 6;choose 1;choose 4;nop;nop;nop;nop;nop;nop"),
         ((1, 1, 0), "choose 2;choose 9;nop;nop"),
+        ((8, 16, 0), "choose 2;nop;nop"),
+        ((8, 16, 0), "choose 4294967295;nop;nop;nop"),
+        ((2, 8, 0), "choose 2;choose 2;nop;nop;nop;nop;nop"),
     ]),
 ]
 

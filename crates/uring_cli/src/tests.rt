@@ -25,11 +25,19 @@ fn nums(alloc: Global, one: Option<u64>) -> Result<Nums, AllocError> {
     Ok(list)
 }
 
-/// The status of the command `run` on `HELLO`, and what it wrote, four bytes a write.
-fn called(alloc: Global, fails: &Fails) -> Result<(Status, Buf), Fail> {
+/// The words of a command line, one space between two.
+fn words_of(alloc: Global, line: &str) -> Result<Vec<Word>, AllocError> {
     let mut words: Vec<Word> = Vec::new(alloc);
-    words.push(Buf::from_slice(alloc, b"run")?)?;
-    let script = Buf::from_slice(alloc, HELLO.as_bytes())?;
+    for word in line.split(' ').filter(|word| !word.is_empty()) {
+        words.push(Buf::from_slice(alloc, word.as_bytes())?)?;
+    }
+    Ok(words)
+}
+
+/// The status of a command on a script, and what it wrote, four bytes a write.
+fn called(alloc: Global, line: &str, script: &str, fails: &Fails) -> Result<(Status, Buf), Fail> {
+    let words = words_of(alloc, line)?;
+    let script = Buf::from_slice(alloc, script.as_bytes())?;
     let mut input = MemorySource::new(script, nums(alloc, fails.read)?);
     let mut out = MemorySink::new(alloc, 4, nums(alloc, fails.write)?);
     let mut partner = MemoryPartner::new(alloc);
@@ -43,7 +51,7 @@ fn called(alloc: Global, fails: &Fails) -> Result<(Status, Buf), Fail> {
 /// Each call that can find no memory answers otherwise where there is memory.
 #[test]
 fn each_call(rt: HostRuntime) -> Result<(), Fail> {
-    let (status, text) = called(rt.alloc(), &Fails::default())?;
+    let (status, text) = called(rt.alloc(), "run", HELLO, &Fails::default())?;
     assert_eq!(rt; status, Status::Done);
     assert_eq!(rt; text.as_slice(), HELLO_REPORT.as_bytes());
     Ok(())
@@ -78,9 +86,46 @@ fn failures(rt: HostRuntime) -> Result<(), Fail> {
             "",
         ),
     ] {
-        let (status, text) = called(rt.alloc(), &fails)?;
+        let (status, text) = called(rt.alloc(), "run", HELLO, &fails)?;
         assert_eq!(rt; status, wanted);
         assert_eq!(rt; text.as_slice(), written.as_bytes());
+    }
+    Ok(())
+}
+
+/// Words that are no command, sizes that no rings have, and scripts and jobs that are refused.
+#[test]
+fn refusals(rt: HostRuntime) -> Result<(), Fail> {
+    for (line, script, wanted) in [
+        ("", HELLO, Status::Usage),
+        ("runs", HELLO, Status::Usage),
+        ("run run", HELLO, Status::Usage),
+        ("run --sq", HELLO, Status::Usage),
+        ("run --sq 08", HELLO, Status::Usage),
+        ("run --sq +8", HELLO, Status::Usage),
+        ("run --sq 4294967296", HELLO, Status::Usage),
+        ("run --sq 8 --sq 8", HELLO, Status::Usage),
+        ("run --sq 8 --cq", HELLO, Status::Usage),
+        ("run --idle 0", HELLO, Status::Usage),
+        ("run --size 8", HELLO, Status::Usage),
+        ("--sq 8", HELLO, Status::Usage),
+        ("run", "file 1 41\nread 1 0", Status::Script(2)),
+        ("run", "file 1 00\nfile 1 01\n", Status::Script(2)),
+        ("run", "read 1 0 16777217\n", Status::Script(1)),
+        ("run --sq 0", HELLO, Status::BadSize),
+        ("run --sq 8 --cq 4", HELLO, Status::BadSize),
+        ("run --cq 0", HELLO, Status::BadSize),
+        ("run --sq 32769", HELLO, Status::BadSize),
+        ("run", "read 1 9223372036854775807 1\n", Status::BadJob(0)),
+        (
+            "run",
+            "nop\nwrite 1 18446744073709551615 00\n",
+            Status::BadJob(1),
+        ),
+    ] {
+        let (status, text) = called(rt.alloc(), line, script, &Fails::default())?;
+        assert_eq!(rt; status, wanted, "{line}");
+        assert!(rt; text.is_empty(), "{line}");
     }
     Ok(())
 }

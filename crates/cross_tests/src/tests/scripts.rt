@@ -85,6 +85,7 @@ fn assert_rows(rt: &impl Abort, alloc: Global, rows: &[table::Row]) -> Result<()
 #[test]
 fn worked_out_reports(rt: HostRuntime) -> Result<(), Fail> {
     let alloc = rt.alloc();
+    assert_rows(&rt, alloc, &table::plain())?;
     assert_rows(&rt, alloc, &table::drained())?;
     assert_rows(&rt, alloc, &table::soft_links())?;
     assert_rows(&rt, alloc, &table::hard_links())?;

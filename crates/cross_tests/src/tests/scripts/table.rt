@@ -4,8 +4,59 @@
 /// The sizes of both rings and the position at which they begin, a script, and its report.
 pub type Row = ((u32, u32, u32), &'static str, &'static str);
 
+/// Jobs without marks, up to the last byte of a file and over small rings.
+pub fn plain() -> [Row; 9] {
+    [
+        (
+            (8, 16, 0),
+            "file 3 68656c6c6f\nread 3 0 5\n",
+            "out 0 5 68656c6c6f\nturn 1\ntake 0\npost 0 5\nend\n",
+        ),
+        (
+            (8, 16, 0),
+            "file 3 68656c6c6f\nread 3 3 4\n",
+            "out 0 2 6c6f0000\nturn 1\ntake 0\npost 0 2\nend\n",
+        ),
+        (
+            (8, 16, 0),
+            "read 9 0 1\n",
+            "out 0 -9 00\nturn 1\ntake 0\npost 0 -9\nend\n",
+        ),
+        (
+            (8, 16, 0),
+            "file 1 ab\ntruncate 1 3\n",
+            "out 0 0 -\nturn 1\ntake 0\npost 0 0\nend\n",
+        ),
+        (
+            (8, 16, 0),
+            "file 1 -\nwrite 1 16777216 00\n",
+            "out 0 -27 00\nturn 1\ntake 0\npost 0 -27\nend\n",
+        ),
+        (
+            (8, 16, 0),
+            "file 1 -\nwrite 1 16777215 00\n",
+            "out 0 1 00\nturn 1\ntake 0\npost 0 1\nend\n",
+        ),
+        (
+            (1, 2, 0),
+            "nop\nnop\nnop\n",
+            "out 0 0 -\nout 1 0 -\nout 2 0 -\nturn 1\ntake 0\npost 0 0\nturn 1\ntake 1\npost 1 0\nturn 1\ntake 2\npost 2 0\nend\n",
+        ),
+        (
+            (2, 4, 4294967295),
+            "nop\nnop\n",
+            "out 0 0 -\nout 1 0 -\nturn 2\ntake 0\ntake 1\npost 0 0\npost 1 0\nend\n",
+        ),
+        (
+            (32768, 65536, 0),
+            "file 3 68656c6c6f\nread 3 0 5\n",
+            "out 0 5 68656c6c6f\nturn 1\ntake 0\npost 0 5\nend\n",
+        ),
+    ]
+}
+
 /// Drained jobs wait for all before them, and all behind wait for them.
-pub fn drained() -> [Row; 5] {
+pub fn drained() -> [Row; 10] {
     [
         (
             (2, 4, 0),
@@ -32,11 +83,36 @@ pub fn drained() -> [Row; 5] {
             "choose 3\nchoose 3\nfile 1 -\nwrite 1 0 aa\nwrite 1 1 bb drain\nread 1 0 2 drain\n",
             "out 0 1 aa\nout 1 1 bb\nout 2 2 aabb\nturn 3\ntake 0\ntake 1\ntake 2\npost 0 1\npost 1 1\npost 2 2\nend\n",
         ),
+        (
+            (8, 16, 0),
+            "nop\nnop drain\nnop\n",
+            "out 0 0 -\nout 1 0 -\nout 2 0 -\nturn 3\ntake 0\ntake 1\ntake 2\npost 0 0\npost 1 0\npost 2 0\nend\n",
+        ),
+        (
+            (4, 4, 0),
+            "nop drain\nnop\nnop drain\nnop\nnop\nnop drain\n",
+            "out 0 0 -\nout 1 0 -\nout 2 0 -\nout 3 0 -\nout 4 0 -\nout 5 0 -\nturn 4\ntake 0\ntake 1\ntake 2\ntake 3\npost 0 0\npost 1 0\npost 2 0\npost 3 0\nturn 2\ntake 4\ntake 5\npost 4 0\npost 5 0\nend\n",
+        ),
+        (
+            (8, 16, 0),
+            "choose 3\nnop\nnop drain\nnop\n",
+            "out 0 0 -\nout 1 0 -\nout 2 0 -\nturn 3\ntake 0\ntake 1\ntake 2\npost 0 0\npost 1 0\npost 2 0\nend\n",
+        ),
+        (
+            (8, 16, 0),
+            "choose 0\nnop drain\nnop drain\n",
+            "out 0 0 -\nout 1 0 -\nturn 2\ntake 0\ntake 1\npost 0 0\nturn 0\npost 1 0\nend\n",
+        ),
+        (
+            (8, 16, 0),
+            "choose 7\nnop\nnop\nnop\nnop drain\nnop\n",
+            "out 0 0 -\nout 1 0 -\nout 2 0 -\nout 3 0 -\nout 4 0 -\nturn 5\ntake 0\ntake 1\ntake 2\ntake 3\ntake 4\npost 0 0\npost 1 0\npost 2 0\npost 3 0\npost 4 0\nend\n",
+        ),
     ]
 }
 
 /// A soft link is cut where its job fails or comes short.
-pub fn soft_links() -> [Row; 6] {
+pub fn soft_links() -> [Row; 7] {
     [
         (
             (8, 16, 0),
@@ -68,11 +144,16 @@ pub fn soft_links() -> [Row; 6] {
             "nop link\n",
             "out 0 0 -\nturn 1\ntake 0\npost 0 0\nend\n",
         ),
+        (
+            (8, 16, 0),
+            "file 3 ab\nread 3 0 1 link\nwrite 3 0 cc\n",
+            "out 0 1 ab\nout 1 1 cc\nturn 2\ntake 0\ntake 1\npost 0 1\npost 1 1\nend\n",
+        ),
     ]
 }
 
 /// A hard link isn't cut by its own job's result.
-pub fn hard_links() -> [Row; 4] {
+pub fn hard_links() -> [Row; 5] {
     [
         (
             (8, 16, 0),
@@ -93,6 +174,11 @@ pub fn hard_links() -> [Row; 4] {
             (8, 16, 0),
             "file 1 aabb\ntruncate 1 16777217 hard\ntruncate 1 1 link\nread 1 0 2 link\nnop\n",
             "out 0 -27 -\nout 1 0 -\nout 2 1 aa00\nout 3 -125 -\nturn 4\ntake 0\ntake 1\ntake 2\ntake 3\npost 0 -27\npost 1 0\npost 2 1\npost 3 -125\nend\n",
+        ),
+        (
+            (8, 16, 0),
+            "read 9 0 1 hard\nnop link\nfsync 9 link\nnop\nnop\n",
+            "out 0 -9 00\nout 1 0 -\nout 2 -9 -\nout 3 -125 -\nout 4 0 -\nturn 5\ntake 0\ntake 1\ntake 2\ntake 3\ntake 4\npost 0 -9\npost 1 0\npost 2 -9\npost 3 -125\npost 4 0\nend\n",
         ),
     ]
 }
@@ -124,7 +210,7 @@ pub fn links_over_turns() -> [Row; 4] {
 }
 
 /// A cancel marks another job that is taken and open; a marked job changes nothing.
-pub fn canceled() -> [Row; 4] {
+pub fn canceled() -> [Row; 5] {
     [
         (
             (8, 16, 0),
@@ -146,11 +232,16 @@ pub fn canceled() -> [Row; 4] {
             "choose 3\nfile 1 0a\ntruncate 1 0\ncancel 0 hard\nread 1 0 1\n",
             "out 0 -125 -\nout 1 0 -\nout 2 1 0a\nturn 3\ntake 0\ntake 1\ntake 2\npost 1 0\npost 0 -125\npost 2 1\nend\n",
         ),
+        (
+            (8, 16, 0),
+            "cancel 1\nnop\n",
+            "out 0 0 -\nout 1 -125 -\nturn 2\ntake 0\ntake 1\npost 0 0\npost 1 -125\nend\n",
+        ),
     ]
 }
 
 /// A cancel of what isn't open finds none, and of several the first marks.
-pub fn cancels() -> [Row; 6] {
+pub fn cancels() -> [Row; 10] {
     [
         (
             (8, 16, 0),
@@ -182,11 +273,31 @@ pub fn cancels() -> [Row; 6] {
             "choose 3\nchoose 3\nnop\ncancel 2\ncancel 1\n",
             "out 0 0 -\nout 1 0 -\nout 2 -125 -\nturn 3\ntake 0\ntake 1\ntake 2\npost 1 0\npost 2 -125\npost 0 0\nend\n",
         ),
+        (
+            (8, 16, 0),
+            "cancel 0\n",
+            "out 0 -2 -\nturn 1\ntake 0\npost 0 -2\nend\n",
+        ),
+        (
+            (8, 16, 0),
+            "choose 3\nnop\ncancel 18446744073709551615\n",
+            "out 0 0 -\nout 1 -2 -\nturn 2\ntake 0\ntake 1\npost 1 -2\npost 0 0\nend\n",
+        ),
+        (
+            (8, 16, 0),
+            "choose 5\nnop\nnop\ncancel 0\ncancel 0\n",
+            "out 0 -125 -\nout 1 0 -\nout 2 0 -\nout 3 -2 -\nturn 4\ntake 0\ntake 1\ntake 2\ntake 3\npost 2 0\npost 0 -125\npost 1 0\npost 3 -2\nend\n",
+        ),
+        (
+            (8, 16, 0),
+            "choose 3\ncancel 1\ncancel 0\n",
+            "out 0 -125 -\nout 1 0 -\nturn 2\ntake 0\ntake 1\npost 1 0\npost 0 -125\nend\n",
+        ),
     ]
 }
 
 /// A choice names the ready job that settles next, and an even one ends the turn.
-pub fn chosen() -> [Row; 8] {
+pub fn chosen() -> [Row; 11] {
     [
         (
             (8, 16, 0),
@@ -227,6 +338,21 @@ pub fn chosen() -> [Row; 8] {
             (1, 1, 0),
             "choose 2\nchoose 9\nnop\nnop\n",
             "out 0 0 -\nout 1 0 -\nturn 1\ntake 0\npost 0 0\nturn 1\ntake 1\npost 1 0\nend\n",
+        ),
+        (
+            (8, 16, 0),
+            "choose 2\nnop\nnop\n",
+            "out 0 0 -\nout 1 0 -\nturn 2\ntake 0\ntake 1\npost 1 0\nturn 0\npost 0 0\nend\n",
+        ),
+        (
+            (8, 16, 0),
+            "choose 4294967295\nnop\nnop\nnop\n",
+            "out 0 0 -\nout 1 0 -\nout 2 0 -\nturn 3\ntake 0\ntake 1\ntake 2\npost 1 0\npost 0 0\npost 2 0\nend\n",
+        ),
+        (
+            (2, 8, 0),
+            "choose 2\nchoose 2\nnop\nnop\nnop\nnop\nnop\n",
+            "out 0 0 -\nout 1 0 -\nout 2 0 -\nout 3 0 -\nout 4 0 -\nturn 2\ntake 0\ntake 1\npost 1 0\nturn 2\ntake 2\ntake 3\npost 2 0\nturn 1\ntake 4\npost 0 0\npost 3 0\npost 4 0\nend\n",
         ),
     ]
 }
