@@ -1,0 +1,4 @@
+pub mod ByNumber
+pub mod Joins
+pub mod Moves
+pub mod Rows

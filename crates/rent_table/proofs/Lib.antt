@@ -1,0 +1,11 @@
+pub mod Picks
+pub mod Indexed
+pub mod Linked
+pub mod Waits
+pub mod Parts
+pub mod Endings
+pub mod Matching
+pub mod Depth
+pub mod Orders
+pub mod Listed
+pub mod Asked

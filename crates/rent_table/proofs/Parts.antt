@@ -1,0 +1,155 @@
+-- What the changes of a table make of the operations in flight and of those that are resolved.
+use Rattle.std.proofs.Common.{◌≡◌, ℕ, zero, suc, ◌+◌, ◌<◌, ◌≤◌, ◌||◌, Bool, true, false, cond, Option, Some, None, is_some, refl, sym, ap, ◌∙◌, subst, T, arith, nat_eq, eqb-true, ne_eqb}
+use Rattle.std.proofs.lemmas.Bool.{eqb-false}
+use Rattle.std.specs.Option.{option_and_then}
+use Rattle.std.specs.Ordering.{nat_cmp, eq_by_cmp}
+use Rattle.std.specs.Cmp.{nat_cmp_total, unsigned_tied}
+use Rattle.std.specs.FinMap.{FinMap, get, insert, remove, len, empty, get-remove}
+use Rattle.rent_table.specs.declared.ops.Flight.{Flight}
+use Rattle.rent_table.specs.declared.ops.OpDone.{OpDone}
+use Rattle.rent_table.specs.declared.ops.Lifecycle.{Lifecycle}
+use Rattle.rent_table.specs.declared.ops.Lifecycle.TheVariants.{InFlight, Done}
+use Rattle.rent_table.specs.Kept.{flight_of, done_of, ops_of}
+use Rattle.rent_table.specs.Ops.{no_ops, flight_at, done_at, knows, AreApart}
+use Rattle.rent_table.proofs.Picks.{get-part, part-insert, part-remove, part-empty, part_few, nothing_out, len-taken, len-added, len-above, len-changed}
+
+abbrev pub Table : Type 0
+Table = FinMap nat_cmp Lifecycle
+
+pub flight-at : (m : Table) (n : ℕ) → flight_at (ops_of m) n ≡ option_and_then flight_of (get m n)
+flight-at m n = get-part flight_of m n
+
+pub done-at : (m : Table) (n : ℕ) → done_at (ops_of m) n ≡ option_and_then done_of (get m n)
+done-at m n = get-part done_of m n
+
+one_of : (o : Option Lifecycle) → is_some o ≡ (is_some (option_and_then flight_of o) || is_some (option_and_then done_of o))
+one_of None = refl
+one_of (Some (InFlight flight)) = refl
+one_of (Some (Done done)) = refl
+
+pub knows-at : (m : Table) (n : ℕ) → is_some (get m n) ≡ knows (ops_of m) n
+knows-at m n = one_of (get m n) ∙ ap (λ o. is_some o || is_some (option_and_then done_of (get m n))) (sym (flight-at m n)) ∙ ap (λ o. is_some (flight_at (ops_of m) n) || is_some o) (sym (done-at m n))
+
+not_both : (o : Option Lifecycle) → is_some (option_and_then flight_of o) ≡ true → option_and_then done_of o ≡ None
+not_both None is = refl
+not_both (Some (InFlight flight)) is = refl
+not_both (Some (Done done)) is = absurd (subst T (sym is) tt)
+
+pub apart-of : (m : Table) → AreApart (ops_of m)
+apart-of m = λ n is. done-at m n ∙ not_both (get m n) (ap is_some (sym (flight-at m n)) ∙ is)
+
+pub ops-empty : (m : Table) → m ≡ empty → ops_of m ≡ no_ops
+ops-empty m e = ap ops_of e ∙ (λ i. record { in_flight = part-empty flight_of i; done = part-empty done_of i })
+
+pub few : (m : Table) → len (ops_of m).in_flight ≤ len m
+few m = part_few flight_of m
+
+none_known : (o : Option Lifecycle) → is_some o ≡ false → (option_and_then flight_of o ≡ None) × (option_and_then done_of o ≡ None)
+none_known None e = (refl, refl)
+none_known (Some x) e = absurd (subst T e tt)
+
+is_none : {X : Type 0} (o : Option X) → is_some o ≡ false → o ≡ None
+is_none None e = refl
+is_none (Some x) e = absurd (subst T e tt)
+
+pub absent : (m : Table) (n : ℕ) → knows (ops_of m) n ≡ false → get m n ≡ None
+absent m n e = is_none (get m n) (knows-at m n ∙ e)
+
+-- an operation is put in flight
+module _ (m : Table) (n : ℕ) (flight : Flight) (unknown : knows (ops_of m) n ≡ false) where
+  pub ops-started : ops_of (insert m n (InFlight flight)) ≡ record (ops_of m) { in_flight = insert (ops_of m).in_flight n flight }
+  ops-started = λ i. record {
+    in_flight = part-insert flight_of m n (InFlight flight) i;
+    done = (part-insert done_of m n (InFlight flight) ∙ sym (nothing_out (ops_of m).done n (done-at m n ∙ ap (option_and_then done_of) (absent m n unknown)))) i;
+  }
+
+  pub len-started : len (ops_of (insert m n (InFlight flight))).in_flight ≡ len (ops_of m).in_flight + 1
+  len-started = ap len (part-insert flight_of m n (InFlight flight)) ∙ len-added (ops_of m).in_flight n flight (ap is_some (flight-at m n ∙ ap (option_and_then flight_of) (absent m n unknown)))
+
+known_in_flight : (o : Option Lifecycle) → is_some (option_and_then flight_of o) ≡ true → is_some o ≡ true
+known_in_flight None e = e
+known_in_flight (Some x) e = refl
+
+-- what is in flight is resolved
+module _ (m : Table) (n : ℕ) (here : is_some (flight_at (ops_of m) n) ≡ true) where
+  pub stands : is_some (get m n) ≡ true
+  stands = known_in_flight (get m n) (ap is_some (sym (flight-at m n)) ∙ here)
+
+  pub some_in_flight : 1 ≤ len (ops_of m).in_flight
+  some_in_flight = len-above (ops_of m).in_flight n here
+
+  pub ops-finished : (outcome : OpDone) → ops_of (insert m n (Done outcome)) ≡ record { in_flight = remove (ops_of m).in_flight n; done = insert (ops_of m).done n outcome }
+  ops-finished outcome = λ i. record { in_flight = part-insert flight_of m n (Done outcome) i; done = part-insert done_of m n (Done outcome) i }
+
+  pub len-finished : (outcome : OpDone) → len (ops_of (insert m n (Done outcome))).in_flight + 1 ≡ len (ops_of m).in_flight
+  len-finished outcome = ap (λ x. len x + 1) (part-insert flight_of m n (Done outcome)) ∙ len-taken (ops_of m).in_flight n here
+
+  pub ops-discarded : ops_of (remove m n) ≡ record { in_flight = remove (ops_of m).in_flight n; done = (ops_of m).done }
+  ops-discarded = λ i. record {
+    in_flight = part-remove flight_of m n i;
+    done = (part-remove done_of m n ∙ sym (nothing_out (ops_of m).done n (apart-of m n here))) i;
+  }
+
+  pub len-discarded : len (ops_of (remove m n)).in_flight + 1 ≡ len (ops_of m).in_flight
+  len-discarded = ap (λ x. len x + 1) (part-remove flight_of m n) ∙ len-taken (ops_of m).in_flight n here
+
+  -- it is marked
+  pub ops-marked : (flight : Flight) → ops_of (insert m n (InFlight flight)) ≡ record (ops_of m) { in_flight = insert (ops_of m).in_flight n flight }
+  ops-marked flight = λ i. record {
+    in_flight = part-insert flight_of m n (InFlight flight) i;
+    done = (part-insert done_of m n (InFlight flight) ∙ sym (nothing_out (ops_of m).done n (apart-of m n here))) i;
+  }
+
+  pub len-marked : (flight : Flight) → len (ops_of (insert m n (InFlight flight))).in_flight ≡ len (ops_of m).in_flight
+  len-marked flight = ap len (part-insert flight_of m n (InFlight flight)) ∙ len-changed (ops_of m).in_flight n flight here
+
+-- what isn't in flight is taken out
+module _ (m : Table) (n : ℕ) (landed : flight_at (ops_of m) n ≡ None) where
+  pub ops-taken : ops_of (remove m n) ≡ record (ops_of m) { done = remove (ops_of m).done n }
+  ops-taken = λ i. record {
+    in_flight = (part-remove flight_of m n ∙ sym (nothing_out (ops_of m).in_flight n landed)) i;
+    done = part-remove done_of m n i;
+  }
+
+  pub len-left : len (ops_of (remove m n)).in_flight ≡ len (ops_of m).in_flight
+  len-left = ap len (part-remove flight_of m n ∙ sym (nothing_out (ops_of m).in_flight n landed))
+
+-- numbers below k that are all known are at most as many as the table has
+apart_keys : (n k : ℕ) → n < k → eq_by_cmp nat_cmp n k ≡ false
+apart_keys n k lt = unsigned_tied n k ∙ ne_eqb n k (λ e. omega (arith, e, lt))
+
+still_there : (m : Table) (k n : ℕ) → n < k → get (remove m k) n ≡ get m n
+still_there m k n lt = get-remove nat_cmp_total m k n ∙ ap (λ b. cond b None (get m n)) (apart_keys n k lt)
+
+pigeon : (k : ℕ) (m : Table) → ((n : ℕ) → n < k → is_some (get m n) ≡ true) → k ≤ len m
+pigeon zero m h = omega arith
+pigeon (suc k) m h =
+    let p = pigeon k (remove m k) (λ n lt. ap is_some (still_there m k n lt) ∙ h n (omega (arith, lt))) in
+    let q = len-taken m k (h k (omega arith)) in omega (arith, p, q)
+
+to_false : (b : Bool) → (b ≡ true → ⊥) → b ≡ false
+to_false true no_way = absurd (no_way refl)
+to_false false no_way = refl
+
+at_end : (k n : ℕ) → n < suc k → (n ≡ k → ⊥) → n < k
+at_end k n lt ne = grind (arith, lt, ne)
+
+all_below : (k : ℕ) (m : Table) → ((n : ℕ) → n < k → is_some (get m n) ≡ true) → is_some (get m k) ≡ true → (n : ℕ) → n < suc k → is_some (get m n) ≡ true
+all_below k m h there n lt = elim (nat_eq n k) as (λ b. nat_eq n k ≡ b → is_some (get m n) ≡ true) [
+  | true ↦ λ e. ap (λ q. is_some (get m q)) (eqb-true n k e) ∙ there
+  | false ↦ λ e. h n (at_end k n lt (eqb-false n k e))
+] refl
+
+-- where all numbers below the table's count are known, the count itself isn't
+pub next_is_free : (k : ℕ) (m : Table) → k ≡ len m → ((n : ℕ) → n < k → knows (ops_of m) n ≡ true) → knows (ops_of m) k ≡ false
+next_is_free k m is h = sym (knows-at m k) ∙ to_false _ (λ there. let p = pigeon (suc k) m (all_below k m (λ n lt. knows-at m n ∙ h n lt) there) in let q : ⊥ = omega (arith, p, is) in q)
+
+-- What a place is known to hold, by what the table has there.
+pub in_flight_there : (m : Table) (n : ℕ) (flight : Flight) → get m n ≡ Some (InFlight flight) → Some flight ≡ flight_at (ops_of m) n
+in_flight_there m n flight e = sym (flight-at m n ∙ ap (option_and_then flight_of) e)
+
+pub done_there : (m : Table) (n : ℕ) (done : OpDone) → get m n ≡ Some (Done done) → None ≡ flight_at (ops_of m) n
+done_there m n done e = sym (flight-at m n ∙ ap (option_and_then flight_of) e)
+
+pub nothing_there : (m : Table) (n : ℕ) → get m n ≡ None → None ≡ flight_at (ops_of m) n
+nothing_there m n e = sym (flight-at m n ∙ ap (option_and_then flight_of) e)

@@ -1,0 +1,7 @@
+use Rattle.std.proofs.Common.{subst}
+use Rattle.rent_table.specs.Ops.{AreApart}
+use Rattle.rent_table.proofs.Parts.{apart-of}
+use Rattle.rent_table.proofs.lifecycles.Lifecycles.in_flight.Goals as goal
+
+pub returns-clause-apart : goal.returns-clause-apart
+returns-clause-apart c = subst (λ k. AreApart k.ops) c.self.view_is (apart-of c.self.inside.slab.entries)

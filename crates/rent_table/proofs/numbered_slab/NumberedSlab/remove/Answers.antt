@@ -1,0 +1,23 @@
+use Rattle.std.proofs.Common.{sym, ap, ◌∙◌}
+use Rattle.std.specs.FinMap as map
+use Rattle.std.specs.Option.{option_and_then}
+use Rattle.slab.specs.Slab.{get}
+use Rattle.rent_table.specs.NumberedSlab.{at}
+use Rattle.rent_table.proofs.Picks.{get-at}
+use Rattle.rent_table.proofs.Indexed.{picked-left, picked-absent, IsIndexed-left}
+use Rattle.rent_table.proofs.numbered_slab.NumberedSlab.remove.Goals as goal
+
+pub invariant_of-self : goal.invariant_of-self
+invariant_of-self g c = IsIndexed-left _ _ _ _ c.args.number c.in-Some.place c.in-Some.ensures.updates.0 (sym c.in-Some.ensures.value) c.try_remove.ensures.updates c.self.invariant
+
+pub returns-in-Some-clause-value : goal.returns-in-Some-clause-value
+returns-in-Some-clause-value g c = c.try_remove.ensures.value ∙ sym (get-at (get c.self.inside.places) c.self.inside.index.entries c.args.number ∙ ap (option_and_then (get c.self.inside.places)) (sym c.in-Some.ensures.value)) ∙ ap (λ t. at t c.args.number) c.self.view_is
+
+pub returns-in-Some-clause-entries : goal.returns-in-Some-clause-entries
+returns-in-Some-clause-entries g c = picked-left _ _ _ _ c.args.number c.in-Some.place c.in-Some.ensures.updates.0 (sym c.in-Some.ensures.value) c.try_remove.ensures.updates c.self.invariant ∙ ap (λ t. map.remove t.entries c.args.number) c.self.view_is
+
+pub returns-in-None-clause-value : goal.returns-in-None-clause-value
+returns-in-None-clause-value g c = sym (get-at (get c.self.inside.places) c.self.inside.index.entries c.args.number ∙ ap (option_and_then (get c.self.inside.places)) (sym c.in-None.ensures.value)) ∙ ap (λ t. at t c.args.number) c.self.view_is
+
+pub returns-in-None-clause-entries : goal.returns-in-None-clause-entries
+returns-in-None-clause-entries g c = picked-absent _ _ c.self.inside.places c.args.number c.in-None.ensures.updates.0 ∙ ap (λ t. map.remove t.entries c.args.number) c.self.view_is

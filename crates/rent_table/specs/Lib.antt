@@ -1,0 +1,11 @@
+pub mod Kept
+pub mod Laws
+pub mod Links
+pub mod Lists
+pub mod NumberedSlab
+pub mod Ops
+pub mod QuietEnds
+pub mod Sound
+pub mod Steps
+pub mod Table
+pub mod Waiting

@@ -1,0 +1,191 @@
+//! The lifecycles of operations: in flight, then resolved and unpolled.
+
+ghost use Rattle.std.specs.Prelude.{◌≡◌, ◌+◌, ◌^◌, ◌<◌, ◌≤◌, ℕ, true, false, None, Some, OnOk, IsOk, is_some};
+ghost use Rattle.std.specs.FinMap.{insert, len, remove};
+ghost use Rattle.rent_table.specs.Steps.{keeps_steps};
+ghost use Rattle.rent_table.specs.Ops.{no_ops, flight_at, done_at, knows, started, resolved_as, forgotten, AreApart};
+
+use crate::numbered_slab::NumberedSlab;
+use crate::ops::{Flight, Lifecycle, OpDone};
+use std::alloc::{AllocError, Global};
+use std::marker::Model;
+
+/// What is known under each number. An operation keeps its place from its start until its result
+/// is taken.
+#[derive(Drop)]
+pub(crate) struct Lifecycles {
+    slab: NumberedSlab<Lifecycle>,
+    in_flight: usize,
+}
+
+impl Model for Lifecycles {
+    ghost use Rattle.std.specs.Prelude.{◌≡◌};
+    ghost use Rattle.std.specs.FinMap.{len};
+    ghost use Rattle.rent_table.specs.Kept.{Kept, kept_code, ops_of};
+
+    ghost Value = { Kept };
+
+    ghost coded = { kept_code };
+
+    ghost view = { λ o. record { ops = ops_of o.slab.entries; spare = o.slab.spare } };
+
+    ghost invariant = { λ o. o.in_flight ≡ len (ops_of o.slab.entries).in_flight };
+}
+
+impl Lifecycles {
+    pub(crate) fn new(alloc: Global) -> Lifecycles
+        ensures { result.ops ≡ no_ops }
+    {
+        Lifecycles {
+            slab: NumberedSlab::new(alloc),
+            in_flight: 0,
+        }
+    }
+
+    pub(crate) fn in_flight(&self) -> usize
+        ensures count { result ≡ len self.now.ops.in_flight }
+        ensures apart { AreApart self.now.ops }
+    {
+        self.in_flight
+    }
+
+    pub(crate) fn knows(&self, number: u64) -> bool
+        ensures { result ≡ knows self.now.ops number }
+    {
+        self.slab.contains(number)
+    }
+
+    /// The least number that isn't known.
+    pub(crate) fn least_unknown(&self) -> u64
+        ensures free { knows self.now.ops result ≡ false }
+        ensures least { (n : ℕ) → n < result → knows self.now.ops n ≡ true }
+    {
+        let known = self.slab.len() as u64;
+        for number in 0..known {
+            if !self.knows(number) {
+                return number;
+            }
+        }
+        known
+    }
+
+    pub(crate) fn flight(&self, number: u64) -> Option<Flight>
+        ensures { result ≡ flight_at self.now.ops number }
+    {
+        match self.slab.get(number) {
+            Some(Lifecycle::InFlight(flight)) => Some(*flight),
+            Some(Lifecycle::Done(_)) => None,
+            None => None,
+        }
+    }
+
+    /// Whether steps of a number are kept.
+    pub(crate) fn keeps_steps(&self, number: u64) -> bool
+        ensures { result ≡ keeps_steps self.now.ops number }
+    {
+        match self.flight(number) {
+            Some(flight) => !flight.forgotten,
+            None => false,
+        }
+    }
+
+    /// Makes room for so many more operations.
+    pub(crate) fn reserve(&mut self, more: usize) -> Result<(), AllocError>
+        ensures ops { self.new.ops ≡ self.old.ops }
+        ensures room { OnOk result (more ≤ self.new.spare) }
+        ensures succeeds { 0 < more → more ≤ self.old.spare → IsOk result }
+        ensures spare { self.old.spare ≤ self.new.spare }
+    {
+        self.slab.reserve(more)
+    }
+
+    /// Puts an operation in flight.
+    pub(crate) fn start(&mut self, number: u64, lent: bool, next: Option<u64>)
+        requires unknown { knows self.old.ops number ≡ false }
+        requires room { 0 < self.old.spare }
+        requires fits { len self.old.ops.in_flight + 1 < 2 ^ 64 }
+        ensures ops { self.new.ops ≡ started number lent next self.old.ops }
+        ensures spare { self.old.spare ≤ self.new.spare + 1 }
+    {
+        let forgotten = false;
+        self.slab.insert(
+            number,
+            Lifecycle::InFlight(Flight {
+                lent,
+                forgotten,
+                next,
+            }),
+        );
+        self.in_flight += 1;
+    }
+
+    /// Resolves what is in flight under a number.
+    pub(crate) fn resolve(&mut self, number: u64, flight: Flight, outcome: OpDone)
+        requires { flight_at self.old.ops number ≡ Some flight }
+        ensures ops { self.new.ops ≡ resolved_as flight number outcome self.old.ops }
+        ensures spare { self.old.spare ≤ self.new.spare }
+    {
+        if flight.forgotten {
+            self.discard(number);
+        } else {
+            self.finish(number, outcome);
+        }
+    }
+
+    fn finish(&mut self, number: u64, outcome: OpDone)
+        requires { is_some (flight_at self.old.ops number) ≡ true }
+        ensures ops { self.new.ops ≡ record { in_flight = remove self.old.ops.in_flight number; done = insert self.old.ops.done number outcome } }
+        ensures spare { self.old.spare ≤ self.new.spare }
+    {
+        self.in_flight -= 1;
+        self.slab.replace(number, Lifecycle::Done(outcome));
+    }
+
+    fn discard(&mut self, number: u64)
+        requires { is_some (flight_at self.old.ops number) ≡ true }
+        ensures ops { self.new.ops ≡ record { in_flight = remove self.old.ops.in_flight number; done = self.old.ops.done } }
+        ensures spare { self.old.spare ≤ self.new.spare }
+    {
+        self.in_flight -= 1;
+        self.slab.remove(number);
+    }
+
+    /// Takes out what is resolved.
+    pub(crate) fn take(&mut self, number: u64) -> Option<OpDone>
+        requires { flight_at self.old.ops number ≡ None }
+        ensures value { result ≡ done_at self.old.ops number }
+        ensures ops { self.new.ops ≡ record self.old.ops { done = remove self.old.ops.done number } }
+        ensures spare { self.old.spare ≤ self.new.spare }
+    {
+        match self.slab.remove(number) {
+            Some(Lifecycle::Done(done)) => Some(done),
+            Some(Lifecycle::InFlight(_)) => unreachable!(),
+            None => None,
+        }
+    }
+
+    /// Drops what is resolved, and marks what is in flight.
+    pub(crate) fn forget(&mut self, number: u64)
+        ensures ops { self.new.ops ≡ forgotten number self.old.ops }
+        ensures spare { self.old.spare ≤ self.new.spare }
+    {
+        match self.flight(number) {
+            Some(flight) => self.mark_forgotten(number, flight),
+            None => {
+                self.take(number);
+            }
+        }
+    }
+
+    fn mark_forgotten(&mut self, number: u64, flight: Flight)
+        requires { flight_at self.old.ops number ≡ Some flight }
+        ensures ops { self.new.ops ≡ record self.old.ops { in_flight = insert self.old.ops.in_flight number (record flight { forgotten = true }) } }
+        ensures spare { self.new.spare ≡ self.old.spare }
+    {
+        let marked = Flight {
+            forgotten: true,
+            ..flight
+        };
+        self.slab.replace(number, Lifecycle::InFlight(marked));
+    }
+}
