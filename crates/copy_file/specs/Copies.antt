@@ -7,8 +7,8 @@ use Rattle.copy_file.specs.declared.copied.Copied.{Copied}
 use Rattle.copy_file.specs.declared.copied.TheConstants.{PIECE}
 
 -- the bytes of the file of that number
-abbrev pub file_of : MemoryPartner → ℕ → Option (List ℕ)
-file_of partner number = finite.get (state_of partner).world number
+abbrev pub bytes_under : MemoryPartner → ℕ → Option (List ℕ)
+bytes_under partner number = finite.get (state_of partner).world number
 
 -- both files are there, with the same bytes
 abbrev pub IsCopy : Option (List ℕ) → Option (List ℕ) → Type 0
@@ -21,6 +21,6 @@ abbrev pub pieces_in : ℕ → ℕ
 pieces_in len = (len + (PIECE - 1)) / PIECE
 
 -- all bytes were copied, by so many operations
-pub record IsWhole (copied : Copied) (len count : ℕ) : Type 0 where
+pub record IsWholeCopy (copied : Copied) (len count : ℕ) : Type 0 where
   pub bytes : copied.bytes ≡ len
   pub operations : copied.operations ≡ count

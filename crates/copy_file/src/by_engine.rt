@@ -1,7 +1,7 @@
 //! A copy by an engine: each operation is a state, which is polled until it gives its output.
 
 ghost use Rattle.std.specs.Prelude.{◌≡◌, ◌≤◌, ◌+◌, ◌*◌, false, length, IfOk};
-ghost use Rattle.copy_file.specs.Copies.{IsWhole, pieces_in};
+ghost use Rattle.copy_file.specs.Copies.{IsWholeCopy, pieces_in};
 
 use crate::copied::{Copied, PIECE};
 use partner_traits::Partner;
@@ -78,7 +78,7 @@ pub fn copy<P: Partner>(
     copy: File,
     len: u32,
 ) -> io::Result<Copied>
-    ensures { IfOk result (λ copied. IsWhole copied len (2 * pieces_in len + 1)) }
+    ensures { IfOk result (λ copied. IsWholeCopy copied len (2 * pieces_in len + 1)) }
 {
     let ring = IoUring::new(alloc, 1)?;
     let params = *ring.params();

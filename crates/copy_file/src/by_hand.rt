@@ -2,7 +2,7 @@
 //! completions are taken out of the completion ring.
 
 ghost use Rattle.std.specs.Prelude.{◌≡◌, ◌*◌, IfOk};
-ghost use Rattle.copy_file.specs.Copies.{IsWhole, pieces_in};
+ghost use Rattle.copy_file.specs.Copies.{IsWholeCopy, pieces_in};
 
 use crate::copied::{Copied, PIECE};
 use partner_traits::Partner;
@@ -20,17 +20,17 @@ const LOAN: u64 = 0;
 
 /// A pair of rings, and what lets a partner enter.
 #[derive(Drop)]
-struct Rings {
+struct RingPair {
     ring: IoUring,
     submitter: Submitter,
 }
 
-impl Rings {
+impl RingPair {
     /// Rings for one entry, which is enough where each operation is waited for.
-    fn new(alloc: Global) -> io::Result<Rings> {
+    fn new(alloc: Global) -> io::Result<RingPair> {
         let ring = IoUring::new(alloc, 1)?;
         let submitter = Submitter::new(ring.params());
-        Ok(Rings { ring, submitter })
+        Ok(RingPair { ring, submitter })
     }
 
     /// Has the partner perform one operation on a buffer. Its result, a count of bytes, comes back
@@ -97,9 +97,9 @@ pub fn copy<P: Partner>(
     copy: Fixed,
     len: u32,
 ) -> io::Result<Copied>
-    ensures { IfOk result (λ copied. IsWhole copied len (2 * pieces_in len)) }
+    ensures { IfOk result (λ copied. IsWholeCopy copied len (2 * pieces_in len)) }
 {
-    let mut rings = Rings::new(alloc)?;
+    let mut rings = RingPair::new(alloc)?;
     let mut buf = Buf::new(alloc);
     let mut copied = Copied {
         bytes: 0,

@@ -6,7 +6,7 @@
 #![tactic(auto)]
 
 ghost use Rattle.std.specs.Prelude.{◌≡◌, ◌↔◌, IfOk, IsTrue, length};
-ghost use Rattle.copy_file.specs.Copies.{IsCopy, file_of};
+ghost use Rattle.copy_file.specs.Copies.{IsCopy, bytes_under};
 
 mod by_engine;
 mod by_hand;
@@ -51,7 +51,7 @@ fn partner_with_source(alloc: Global) -> io::Result<MemoryPartner> {
 
 /// Whether the partner has a source, and a copy of the same bytes.
 pub fn is_copied(partner: &MemoryPartner) -> bool
-    ensures { IsTrue result ↔ IsCopy (file_of partner.now SOURCE) (file_of partner.now COPY) }
+    ensures { IsTrue result ↔ IsCopy (bytes_under partner.now SOURCE) (bytes_under partner.now COPY) }
 {
     match (partner.file_bytes(SOURCE), partner.file_bytes(COPY)) {
         (Some(source), Some(copy)) => copy == source,

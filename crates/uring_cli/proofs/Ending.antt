@@ -23,7 +23,7 @@ use Rattle.uring_cli.specs.declared.words.Options.{Options}
 use Rattle.uring_cli.specs.Ends.{IsGoodCall}
 use Rattle.uring_cli.specs.Seeds.{seeded}
 use Rattle.uring_cli.specs.Input.{GaveScript}
-use Rattle.uring_cli.specs.Runs.{Executed, Failed, ends_in_partner_fault}
+use Rattle.uring_cli.specs.Runs.{Executed, FailedRun, ends_in_partner_fault}
 
 -- what holds of the options that the words give
 pub at_options : (given : Option Options) (options : Options) (Q : Options → Type 0) → given ≡ Some options → Q options → IfSome given Q
@@ -59,7 +59,7 @@ explained mach view Plain put puts log state plan told options before after answ
     (m.0, m.2)
 
 good_end : {W : Type 0} (mach : schedule.Machine W) (view : W → Files) (Plain : W → Type 0) (put : ℕ → List ℕ → W → W) (puts : Puts view Plain put) {P : Type 0} (log : P → Option (List LogEvent)) (state : P → Option (schedule.State W)) (plan : P → List ℕ) (told : Told) (options : Options) (before after : P) (a : schedule.State W) (status : Status)
-    → Failed mach view Plain put log state plan told options before after status → IsValidRun options.sq options.cq told.jobs → state before ≡ Some a → IsPlainAndIdle Plain a → ends_in_partner_fault status ≡ false → (status ≡ ends.Done) ⊎ (status ≡ ends.NoMemory)
+    → FailedRun mach view Plain put log state plan told options before after status → IsValidRun options.sq options.cq told.jobs → state before ≡ Some a → IsPlainAndIdle Plain a → ends_in_partner_fault status ≡ false → (status ≡ ends.Done) ⊎ (status ≡ ends.NoMemory)
 good_end mach view Plain put puts log state plan told options before after a ends.BadSize failed valid tells idle unplanned = let x = failed.refused in let y = nothing_refused options told valid in absurd cc
 good_end mach view Plain put puts log state plan told options before after a (ends.BadJob n) failed valid tells idle unplanned = let x = failed.refused in let y = nothing_refused options told valid in absurd cc
 good_end mach view Plain put puts log state plan told options before after a (ends.Stranger u) failed valid tells idle unplanned =
@@ -76,7 +76,7 @@ good_end mach view Plain put puts log state plan told options before after a (en
 good_end mach view Plain put puts log state plan told options before after a ends.WriteFault failed valid tells idle unplanned = absurd failed
 
 ends_as : {W : Type 0} (mach : schedule.Machine W) (view : W → Files) (Plain : W → Type 0) (put : ℕ → List ℕ → W → W) (puts : Puts view Plain put) {P : Type 0} (log : P → Option (List LogEvent)) (state : P → Option (schedule.State W)) (plan : P → List ℕ) (left left' : Option (List ℕ)) (taken taken' : ℕ) (told : Told) (options : Options) (before after : P) (status : Status) (read read' write write' : ℕ) (l : Option (List ℕ)) (s : Option (schedule.State W))
-    → GaveScript left left' taken taken' told → Failed mach view Plain put log state plan told options before after status → IfSome s (λ _. plan before ≡ [] → ends_in_partner_fault status ≡ false) → left ≡ l → state before ≡ s
+    → GaveScript left left' taken taken' told → FailedRun mach view Plain put log state plan told options before after status → IfSome s (λ _. plan before ≡ [] → ends_in_partner_fault status ≡ false) → left ≡ l → state before ≡ s
     → IfSome l (λ text. IfSome s (λ a. IsGoodCall Plain options text a (plan before) read read' write write' → (status ≡ ends.Done) ⊎ (status ≡ ends.NoMemory)))
 ends_as mach view Plain put puts log state plan left left' taken taken' told options before after status read read' write write' None s gave failed unplanned tells_text tells = tt
 ends_as mach view Plain put puts log state plan left left' taken taken' told options before after status read read' write write' (Some text) None gave failed unplanned tells_text tells = tt
@@ -86,7 +86,7 @@ ends_as mach view Plain put puts log state plan left left' taken taken' told opt
 
 -- where there is no report, a good call found no memory
 pub ends_well : {W : Type 0} (mach : schedule.Machine W) (view : W → Files) (Plain : W → Type 0) (put : ℕ → List ℕ → W → W) (puts : Puts view Plain put) {P : Type 0} (log : P → Option (List LogEvent)) (state : P → Option (schedule.State W)) (plan : P → List ℕ) (left left' : Option (List ℕ)) (taken taken' : ℕ) (told : Told) (options : Options) (before after : P) (status : Status) (read read' write write' : ℕ)
-    → GaveScript left left' taken taken' told → Failed mach view Plain put log state plan told options before after status → IfSome (state before) (λ _. plan before ≡ [] → ends_in_partner_fault status ≡ false)
+    → GaveScript left left' taken taken' told → FailedRun mach view Plain put log state plan told options before after status → IfSome (state before) (λ _. plan before ≡ [] → ends_in_partner_fault status ≡ false)
     → IfSome left (λ text. IfSome (state before) (λ a. IsGoodCall Plain options text a (plan before) read read' write write' → (status ≡ ends.Done) ⊎ (status ≡ ends.NoMemory)))
 ends_well mach view Plain put puts log state plan left left' taken taken' told options before after status read read' write write' gave failed unplanned =
     ends_as mach view Plain put puts log state plan left left' taken taken' told options before after status read read' write write' left (state before) gave failed unplanned refl refl

@@ -16,7 +16,7 @@ use Rattle.uring_text.specs.Script.{Told}
 use Rattle.uring_text.specs.Status.{status_of}
 use Rattle.uring_cli.specs.declared.words.Options.{Options}
 use Rattle.uring_cli.specs.Seeds.{IsSeeded}
-use Rattle.uring_cli.specs.Runs.{Executed, Failed}
+use Rattle.uring_cli.specs.Runs.{Executed, FailedRun}
 
 -- where nothing is refused, sizes and jobs are valid
 valid_as : (sq cq : ℕ) (jobs : List Job) (size : Bool) (bad : Option ℕ) → is_valid_size sq cq ≡ size → first_bad 0 jobs ≡ bad → (if size then option_map BadJob bad else Some BadSize) ≡ None → IsValidRun sq cq jobs
@@ -36,12 +36,12 @@ refused_as false bad fault e = cc
 failed_as : {W : Type 0} (mach : schedule.Machine W) (view : W → Files) (Plain : W → Type 0) (put : ℕ → List ℕ → W → W) {P : Type 0} (log : P → Option (List LogEvent)) (state : P → Option (schedule.State W)) (plan : P → List ℕ) (told : Told) (options : Options) (before given after : P) (fault : RunFault) (r : Option RunFault)
     → IsSeeded put log state plan told.files told.choices before given → refusal options.sq options.cq told.jobs ≡ r → IfSome r (λ f. (◌≡◌ {A = Result Report RunFault} (Err fault) (Err f)) × (after ≡ given))
     → (IsValidRun options.sq options.cq told.jobs → RunSays mach view Plain log state given after told.jobs (rounded_up options.sq) options.idle (Err fault))
-    → Failed mach view Plain put log state plan told options before after (status_of fault)
+    → FailedRun mach view Plain put log state plan told options before after (status_of fault)
 failed_as mach view Plain put log state plan told options before given after fault None seeds none h run =
     let valid = valid_where_none options.sq options.cq told.jobs none in
     at_fault fault valid (run valid)
   where
-    at_fault : (fault : RunFault) (valid : IsValidRun options.sq options.cq told.jobs) → RunSays mach view Plain log state given after told.jobs (rounded_up options.sq) options.idle (Err fault) → Failed mach view Plain put log state plan told options before after (status_of fault)
+    at_fault : (fault : RunFault) (valid : IsValidRun options.sq options.cq told.jobs) → RunSays mach view Plain log state given after told.jobs (rounded_up options.sq) options.idle (Err fault) → FailedRun mach view Plain put log state plan told options before after (status_of fault)
     at_fault BadSize valid says = absurd says.fault
     at_fault (BadJob n) valid says = absurd says.fault
     at_fault (Stranger u) valid says = record { given = given; seeds = seeds; valid = valid; says = says }
@@ -54,7 +54,7 @@ failed_as mach view Plain put log state plan told options before given after fau
     same : fault ≡ f
     same = cc
 
-    refused : (fault : RunFault) → refusal options.sq options.cq told.jobs ≡ Some fault → IsSeeded put log state plan told.files told.choices before after → Failed mach view Plain put log state plan told options before after (status_of fault)
+    refused : (fault : RunFault) → refusal options.sq options.cq told.jobs ≡ Some fault → IsSeeded put log state plan told.files told.choices before after → FailedRun mach view Plain put log state plan told options before after (status_of fault)
     refused BadSize e seeds = record { seeds = seeds; refused = e }
     refused (BadJob n) e seeds = record { seeds = seeds; refused = e }
     refused (Stranger u) e seeds = let x : is_refusal (Stranger u) ≡ true = refused_as (is_valid_size options.sq options.cq) (first_bad 0 told.jobs) (Stranger u) e in absurd cc
@@ -65,7 +65,7 @@ failed_as mach view Plain put log state plan told options before given after fau
 pub failed : {W : Type 0} (mach : schedule.Machine W) (view : W → Files) (Plain : W → Type 0) (put : ℕ → List ℕ → W → W) {P : Type 0} (log : P → Option (List LogEvent)) (state : P → Option (schedule.State W)) (plan : P → List ℕ) (told : Told) (options : Options) (before given after : P) (fault : RunFault)
     → IsSeeded put log state plan told.files told.choices before given → IfSome (refusal options.sq options.cq told.jobs) (λ f. (◌≡◌ {A = Result Report RunFault} (Err fault) (Err f)) × (after ≡ given))
     → (IsValidRun options.sq options.cq told.jobs → RunSays mach view Plain log state given after told.jobs (rounded_up options.sq) options.idle (Err fault))
-    → Failed mach view Plain put log state plan told options before after (status_of fault)
+    → FailedRun mach view Plain put log state plan told options before after (status_of fault)
 failed mach view Plain put log state plan told options before given after fault seeds refused run = failed_as mach view Plain put log state plan told options before given after fault (refusal options.sq options.cq told.jobs) seeds refl refused run
 
 -- a report of the run

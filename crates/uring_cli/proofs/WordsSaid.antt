@@ -13,7 +13,7 @@ use Rattle.uring_text.specs.Script.{◌>>=◌}
 use Rattle.uring_text.specs.Laws.{NumbersAreDecimal}
 use Rattle.uring_cli.specs.Words.{nothing_given, with_option, given_by, in_force, options_of}
 use Rattle.uring_cli.proofs.WordLemmas.{one_option}
-use Rattle.uring_cli.specs.Grammar.{Name, Sq, Cq, Start, Idle, Setting, name_text, setting_words, least, IsInRange, IsInForce, SaysOptions}
+use Rattle.uring_cli.specs.Grammar.{Name, Sq, Cq, Start, Idle, Setting, name_text, setting_words, least, IsSettingInRange, IsInForce, SaysOptions}
 
 -- ---- what a value that was found tells of the steps on the way to it
 
@@ -153,7 +153,7 @@ record Reads (before : Given) (words : List (List ℕ)) (after : Given) : Type 0
   settings : List Setting
   spelled : words ≡ flat_map setting_words settings
   once : AllPairs (λ s t. s.name ≢ t.name) settings
-  in_range : All IsInRange settings
+  in_range : All IsSettingInRange settings
   stands : (name : Name) → Stands before settings after name
 
 others_differ : (name : Name) (n : ℕ) (before after : Given) (settings : List Setting) → Stands (put name n before) settings after name → All (λ t. name ≢ t.name) settings
@@ -176,12 +176,12 @@ stands_before name n before after settings other free changes stands =
       ]
     ]
 
-reads_more : (name : Name) (n : ℕ) (before after : Given) (words : List (List ℕ)) → slot name before ≡ None → IsInRange (setting_of name n) → Reads (put name n before) words after → Reads before (name_text name ∷ decimal n ∷ words) after
+reads_more : (name : Name) (n : ℕ) (before after : Given) (words : List (List ℕ)) → slot name before ≡ None → IsSettingInRange (setting_of name n) → Reads (put name n before) words after → Reads before (name_text name ∷ decimal n ∷ words) after
 reads_more name n before after words free in_range more = record {
   settings = setting_of name n ∷ more.settings;
   spelled = ap (λ ws. name_text name ∷ decimal n ∷ ws) more.spelled;
   once = AllPairs-cons (λ s t. s.name ≢ t.name) (setting_of name n) more.settings (others_differ name n before after more.settings (more.stands name)) more.once;
-  in_range = All-cons IsInRange (setting_of name n) more.settings in_range more.in_range;
+  in_range = All-cons IsSettingInRange (setting_of name n) more.settings in_range more.in_range;
   stands = λ other. stands_before name n before after more.settings other free (slot_put other name n before) (more.stands other);
 }
 
@@ -191,7 +191,7 @@ given_found numbers before after [] e = record {
   settings = [];
   spelled = refl;
   once = λ i j d lt inside. absurd (omega arith);
-  in_range = All-nil IsInRange;
+  in_range = All-nil IsSettingInRange;
   stands = λ name. inl (All-nil (λ s. s.name ≢ name), ap (λ g. slot name g) (sym (some_is before after e)));
 }
 given_found numbers before after (word ∷ []) e = absurd cc
@@ -256,15 +256,15 @@ still_free s settings before differ free = λ k d lt. unchanged (slice_index_or 
           | inr other ↦ other.1 ∙ none
         ]
 
-given_again : NumbersAreDecimal → (before : Given) (settings : List Setting) → AllPairs (λ s t. s.name ≢ t.name) settings → All IsInRange settings → All (λ s. slot s.name before ≡ None) settings → given_by before (flat_map setting_words settings) ≡ Some (put_all before settings)
+given_again : NumbersAreDecimal → (before : Given) (settings : List Setting) → AllPairs (λ s t. s.name ≢ t.name) settings → All IsSettingInRange settings → All (λ s. slot s.name before ≡ None) settings → given_by before (flat_map setting_words settings) ≡ Some (put_all before settings)
 unfolding given_by
 given_again numbers before [] once in_range free = refl
 given_again numbers before (s ∷ settings) once in_range free =
-    let here = All-head IsInRange s settings in_range in
+    let here = All-head IsSettingInRange s settings in_range in
     let is_number = (numbers (MAX_NUMBER + 1) s.number (decimal s.number) (omega arith)).1 (omega (arith, here), refl) in
     let is_option = option_again s.name s.number before (All-head (λ t. slot t.name before ≡ None) s settings free) here.0 in
     one_option before (put s.name s.number before) (name_text s.name) (decimal s.number) (flat_map setting_words settings) s.number is_number is_option
-    ∙ given_again numbers (put s.name s.number before) settings (once_tail s settings once) (All-tail IsInRange s settings in_range)
+    ∙ given_again numbers (put s.name s.number before) settings (once_tail s settings once) (All-tail IsSettingInRange s settings in_range)
     (still_free s settings before (once_head s settings once) (All-tail (λ t. slot t.name before ≡ None) s settings free))
 
 absent : (name : Name) (given : Given) (settings : List Setting) → All (λ s. s.name ≢ name) settings → slot name (put_all given settings) ≡ slot name given

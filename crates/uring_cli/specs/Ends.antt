@@ -17,7 +17,7 @@ use Rattle.uring_text.specs.declared.status.Status.{Status}
 use Rattle.uring_text.specs.declared.status.Status.TheVariants as ends
 use Rattle.uring_cli.specs.declared.words.Options.{Options}
 use Rattle.uring_cli.specs.Input.{GaveNone}
-use Rattle.uring_cli.specs.Runs.{Executed, Failed}
+use Rattle.uring_cli.specs.Runs.{Executed, FailedRun}
 
 -- what the source gave where no script came of it: the bytes left, their count and the faults, each before the call and
 -- after it. Where memory runs out the script may have been read, or not.
@@ -47,7 +47,7 @@ pub record Reported {W : Type 0} (mach : schedule.Machine W) (view : W → Files
 pub record FellShort {W : Type 0} (mach : schedule.Machine W) (view : W → Files) (Plain : W → Type 0) (put : ℕ → List ℕ → W → W) {P : Type 0} (log : P → Option (List LogEvent)) (state : P → Option (schedule.State W)) (plan : P → List ℕ) (Gave : Told → Type 0) (options : Options) (before after : P) (status : Status) : Type 0 where
   pub told : Told
   pub gave : Gave told
-  pub failed : Failed mach view Plain put log state plan told options before after status
+  pub failed : FailedRun mach view Plain put log state plan told options before after status
 
 -- what the partner did for the script that the source gave, and what was written of the report: all of it where it is
 -- done, and a front of it where the sink failed

@@ -31,8 +31,8 @@ least Cq = 0
 least Start = 0
 least Idle = 1
 
-abbrev pub IsInRange : Setting → Type 0
-IsInRange setting = (least setting.name ≤ setting.number) × (setting.number ≤ MAX_NUMBER)
+abbrev pub IsSettingInRange : Setting → Type 0
+IsSettingInRange setting = (least setting.name ≤ setting.number) × (setting.number ≤ MAX_NUMBER)
 
 -- the number is the one that is given under the name, or the default where none is
 abbrev pub IsInForce : List Setting → Name → ℕ → ℕ → Type 0
@@ -43,7 +43,7 @@ pub record SaysOptions (words : List (List ℕ)) (options : Options) : Type 0 wh
   pub settings : List Setting
   pub spelled : words ≡ codes "run" ∷ flat_map setting_words settings
   pub once : AllPairs (λ s t. s.name ≢ t.name) settings
-  pub in_range : All IsInRange settings
+  pub in_range : All IsSettingInRange settings
   pub sq : IsInForce settings Sq DEFAULT_ENTRIES options.sq
   pub cq : IsInForce settings Cq (min (2 * options.sq) MAX_NUMBER) options.cq
   pub start : IsInForce settings Start 0 options.start

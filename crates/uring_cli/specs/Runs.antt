@@ -22,24 +22,24 @@ pub record Executed {W : Type 0} (mach : schedule.Machine W) (view : W → Files
   pub says : RunSays mach view Plain log state given after told.jobs (rounded_up options.sq) options.idle answer
 
 -- The script's files and choices were put in, and its jobs weren't begun.
-pub record Refused {W : Type 0} (mach : schedule.Machine W) (view : W → Files) (Plain : W → Type 0) (put : ℕ → List ℕ → W → W) {P : Type 0} (log : P → Option (List LogEvent)) (state : P → Option (schedule.State W)) (plan : P → List ℕ) (told : Told) (options : Options) (before after : P) (fault : RunFault) : Type 0 where
+pub record RefusedRun {W : Type 0} (mach : schedule.Machine W) (view : W → Files) (Plain : W → Type 0) (put : ℕ → List ℕ → W → W) {P : Type 0} (log : P → Option (List LogEvent)) (state : P → Option (schedule.State W)) (plan : P → List ℕ) (told : Told) (options : Options) (before after : P) (fault : RunFault) : Type 0 where
   pub seeds : IsSeeded put log state plan told.files told.choices before after
   pub refused : refusal options.sq options.cq told.jobs ≡ Some fault
 
 -- what the partner did for a script of which there is no report
-abbrev pub Failed : {W : Type 0} → schedule.Machine W → (W → Files) → (W → Type 0) → (ℕ → List ℕ → W → W) → {P : Type 0} → (P → Option (List LogEvent)) → (P → Option (schedule.State W)) → (P → List ℕ) → Told → Options → P → P → Status → Type 0
-Failed mach view Plain put log state plan told options before after ends.BadSize = Refused mach view Plain put log state plan told options before after faults.BadSize
-Failed mach view Plain put log state plan told options before after (ends.BadJob job) = Refused mach view Plain put log state plan told options before after (faults.BadJob job)
-Failed mach view Plain put log state plan told options before after (ends.Stranger number) = Executed mach view Plain put log state plan told options before after (Err (faults.Stranger number))
-Failed mach view Plain put log state plan told options before after ends.Stalled = Executed mach view Plain put log state plan told options before after (Err faults.Stalled)
-Failed mach view Plain put log state plan told options before after ends.PartnerFault = IsPartSeeded put log state plan told.files told.choices before after ⊎ Executed mach view Plain put log state plan told options before after (Err faults.PartnerFault)
-Failed mach view Plain put log state plan told options before after ends.NoMemory = IsPartSeeded put log state plan told.files told.choices before after ⊎ ((answer : Result Report RunFault) × Executed mach view Plain put log state plan told options before after answer)
-Failed mach view Plain put log state plan told options before after ends.Done = ⊥
-Failed mach view Plain put log state plan told options before after ends.Usage = ⊥
-Failed mach view Plain put log state plan told options before after ends.ReadFault = ⊥
-Failed mach view Plain put log state plan told options before after ends.TooLong = ⊥
-Failed mach view Plain put log state plan told options before after (ends.Script line) = ⊥
-Failed mach view Plain put log state plan told options before after ends.WriteFault = ⊥
+abbrev pub FailedRun : {W : Type 0} → schedule.Machine W → (W → Files) → (W → Type 0) → (ℕ → List ℕ → W → W) → {P : Type 0} → (P → Option (List LogEvent)) → (P → Option (schedule.State W)) → (P → List ℕ) → Told → Options → P → P → Status → Type 0
+FailedRun mach view Plain put log state plan told options before after ends.BadSize = RefusedRun mach view Plain put log state plan told options before after faults.BadSize
+FailedRun mach view Plain put log state plan told options before after (ends.BadJob job) = RefusedRun mach view Plain put log state plan told options before after (faults.BadJob job)
+FailedRun mach view Plain put log state plan told options before after (ends.Stranger number) = Executed mach view Plain put log state plan told options before after (Err (faults.Stranger number))
+FailedRun mach view Plain put log state plan told options before after ends.Stalled = Executed mach view Plain put log state plan told options before after (Err faults.Stalled)
+FailedRun mach view Plain put log state plan told options before after ends.PartnerFault = IsPartSeeded put log state plan told.files told.choices before after ⊎ Executed mach view Plain put log state plan told options before after (Err faults.PartnerFault)
+FailedRun mach view Plain put log state plan told options before after ends.NoMemory = IsPartSeeded put log state plan told.files told.choices before after ⊎ ((answer : Result Report RunFault) × Executed mach view Plain put log state plan told options before after answer)
+FailedRun mach view Plain put log state plan told options before after ends.Done = ⊥
+FailedRun mach view Plain put log state plan told options before after ends.Usage = ⊥
+FailedRun mach view Plain put log state plan told options before after ends.ReadFault = ⊥
+FailedRun mach view Plain put log state plan told options before after ends.TooLong = ⊥
+FailedRun mach view Plain put log state plan told options before after (ends.Script line) = ⊥
+FailedRun mach view Plain put log state plan told options before after ends.WriteFault = ⊥
 
 abbrev pub ends_in_partner_fault : Status → Bool
 ends_in_partner_fault ends.PartnerFault = true

@@ -9,7 +9,7 @@ ghost use Rattle.uring_text.specs.Report.{text_of};
 ghost use Rattle.uring_text.specs.Script.{told_by};
 ghost use Rattle.uring_text.specs.Status.{status_of};
 ghost use Rattle.uring_cli.specs.Seeds.{IsSeeded, IsPartSeeded};
-ghost use Rattle.uring_cli.specs.Runs.{Executed, Failed, ends_in_partner_fault};
+ghost use Rattle.uring_cli.specs.Runs.{Executed, FailedRun, ends_in_partner_fault};
 
 use crate::words::Options;
 use partner_traits::{PartnerError, Seedable};
@@ -91,7 +91,7 @@ pub fn execute<P: Seedable>(
     requires { 0 < options.idle }
     ensures ok { IfOk result (λ text. (report : Report) × (text ≡ text_of report.outcomes.items report.journal.items)
         × Executed P.machine P.view P.Plain P.put P.log P.state P.plan (told_by script) options partner.old partner.new (Ok report)) }
-    ensures err { IfErr result (λ status. Failed P.machine P.view P.Plain P.put P.log P.state P.plan (told_by script) options partner.old partner.new status) }
+    ensures err { IfErr result (λ status. FailedRun P.machine P.view P.Plain P.put P.log P.state P.plan (told_by script) options partner.old partner.new status) }
     ensures cause { HasCause ends_in_partner_fault (P.faults partner.old) (P.faults partner.new) result }
     ensures unplanned { IfSome (P.state partner.old) (λ _. P.plan partner.old ≡ [] → IfErr result (λ e. ends_in_partner_fault e ≡ false)) }
     ensures plan { P.plan partner.old ≡ [] → P.plan partner.new ≡ [] }

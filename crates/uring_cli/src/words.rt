@@ -94,7 +94,7 @@ impl Given {
 }
 
 /// The number that the word spells, where it is one that an option takes.
-fn number_of(word: &Word) -> Option<u32>
+fn number_in(word: &Word) -> Option<u32>
     ensures { result ≡ number_below (MAX_NUMBER + 1) word.now }
 {
     let number = number_to(word.as_slice(), MAX_NUMBER)?;
@@ -109,7 +109,7 @@ fn given_by(words: &[Word]) -> Option<Given>
     let mut given = Given::nothing();
     let mut rest = words.iter();
     while let Some(name) = rest.next() {
-        let number = number_of(rest.next()?)?;
+        let number = number_in(rest.next()?)?;
         given = given.with_option(name.as_slice(), number)?;
     }
     Some(given)
