@@ -33,7 +33,7 @@ module _ {W : Type 0} (m : Machine W) {P R : Type 0} (log : P → Option (List L
         × IfOk result (λ report. (report.taken ≡ taken) × (report.finals ≡ finals_in p.completions))
     TurnEnds (Err error) left after ops ops' result = (after ≡ left) × (ops' ≡ ops) × (result ≡ Err (engine_fault_of error))
 
-    pub record Turned (params : Parameters) (old new : P) (before after : R) (ops ops' : Ops) (result : Result TurnReport EngineFault) : Type 0 where
+    pub record EngineTurned (params : Parameters) (old new : P) (before after : R) (ops ops' : Ops) (result : Result TurnReport EngineFault) : Type 0 where
       pub left : R
       pub answer : Result ℕ SubmitError
       pub submitted : Submitted params old new before left answer

@@ -5,7 +5,7 @@ ghost use Rattle.uring_base.specs.Causes.{HasCause};
 ghost use Rattle.partner_traits.specs.Calls.{later_plan};
 ghost use Rattle.uring_submit.specs.Errors.{KeepsSubmitErrno, is_of_partner, is_submit_fault};
 ghost use Rattle.rent_engine.specs.Faults.{KeepsEngineErrno, is_engine_fault};
-ghost use Rattle.rent_engine.specs.Turns.{Turned, Submitted};
+ghost use Rattle.rent_engine.specs.Turns.{EngineTurned, Submitted};
 
 use crate::engine::Engine;
 use crate::fault::EngineFault;
@@ -23,7 +23,7 @@ impl<R: UserEnds + PartnerSide> Engine<R> {
         alloc: Global,
         partner: &mut P,
     ) -> Result<TurnReport, EngineFault>
-        ensures turned { Turned P.machine P.log P.state R.lists R.ready R.space R.moved R.flags_word R.used R.room R.waiting self.old.params partner.old partner.new self.old.ring self.new.ring self.old.ops self.new.ops result }
+        ensures turned { EngineTurned P.machine P.log P.state R.lists R.ready R.space R.moved R.flags_word R.used R.room R.waiting self.old.params partner.old partner.new self.old.ring self.new.ring self.old.ops self.new.ops result }
         ensures none_left { OnOk result (R.waiting self.new.ring ≡ 0) }
         ensures cause { HasCause is_engine_fault (P.faults partner.old) (P.faults partner.new) result }
         ensures planned { IfSome (P.state partner.old) (λ _. IfErr result (λ fault. IsTrue (is_engine_fault fault) → Contains (P.plan partner.old) 1)) }

@@ -37,7 +37,7 @@ impl Deques {
     }
 
     /// Takes the entries out, and puts a completion in for each.
-    pub(crate) fn answer(&mut self) {
+    pub(crate) fn serve(&mut self) {
         for _ in 0..self.entries.len() {
             let Some(taken) = self.entries.pop_front() else {
                 return;

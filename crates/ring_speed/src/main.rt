@@ -58,7 +58,7 @@ fn through_rings(ring: &mut IoUring) -> Passed {
     let mut passed = Passed::nothing();
     for round in 0..ROUNDS {
         rings::push(ring, first_of(round));
-        rings::answer(ring);
+        rings::serve(ring);
         passed = rings::reap(ring, passed);
     }
     passed
@@ -69,7 +69,7 @@ fn through_deques(deques: &mut deques::Deques) -> Passed {
     let mut passed = Passed::nothing();
     for round in 0..ROUNDS {
         deques.push(first_of(round));
-        deques.answer();
+        deques.serve();
         passed = deques.reap(passed);
     }
     passed

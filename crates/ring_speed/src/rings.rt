@@ -18,7 +18,7 @@ pub(crate) fn push(ring: &mut IoUring, first: u64) {
 }
 
 /// Takes what is published, and posts a completion for each.
-pub(crate) fn answer(ring: &mut IoUring) {
+pub(crate) fn serve(ring: &mut IoUring) {
     let count = ring.published();
     ring.room();
     for _ in 0..count {

@@ -38,10 +38,10 @@ file_kept file h = of_z-to_z w32 file h
 short_enough : (n : ℕ) → n ≤ MAX_BUFFER → nat_lt MAX_BUFFER n ≡ false
 short_enough n h = grind (arith, nat_tests)
 
-lent_op : (j : ℕ) (buf : List ℕ) (op : machine.Op) → length buf ≤ MAX_BUFFER → unless_lacking (Some (record { number = j; from = 0; buf = buf })) op ≡ op
+lent_op : (j : ℕ) (buf : List ℕ) (op : machine.ModelOp) → length buf ≤ MAX_BUFFER → unless_lacking (Some (record { number = j; from = 0; buf = buf })) op ≡ op
 lent_op j buf op h = ap (λ b. cond b (machine.Refused (error_result EINVAL)) op) (short_enough (length buf) h)
 
-abbrev job_with : machine.Op → List ℕ → Bool → Link → model.Job
+abbrev job_with : machine.ModelOp → List ℕ → Bool → Link → model.Job
 job_with op buf drain link = record { op = op; buf = buf; drain = drain; link = link }
 
 -- an entry asks its job, whatever its marks
@@ -159,7 +159,7 @@ abbrev pub is_lent : Reply → Option Loan → Bool
 is_lent reply None = not (lends reply)
 is_lent reply (Some l) = lends reply && nat_eq l.from 0
 
-abbrev pub is_sync : machine.Op → Bool
+abbrev pub is_sync : machine.ModelOp → Bool
 is_sync (machine.Fsync file) = true
 is_sync machine.Nop = false
 is_sync (machine.Read file offset) = false
@@ -168,7 +168,7 @@ is_sync (machine.Ftruncate file len) = false
 is_sync (machine.Cancel job) = false
 is_sync (machine.Refused code) = false
 
-abbrev pub is_asked : Reply → machine.Op → Bool
+abbrev pub is_asked : Reply → machine.ModelOp → Bool
 is_asked Plain op = true
 is_asked Buffer op = true
 is_asked Success op = is_sync op
@@ -184,7 +184,7 @@ asks_kind n (Fsync file) = refl
 asks_kind n (Ftruncate file len) = refl
 asks_kind n (Cancel job) = refl
 
-asks_entry : (n : ℕ) (kind : JobKind) (reply : Reply) (op : machine.Op) → reply ≡ reply_for kind → op ≡ model_op kind → (is_lent reply (job_loan n kind) && is_asked reply op) ≡ true
+asks_entry : (n : ℕ) (kind : JobKind) (reply : Reply) (op : machine.ModelOp) → reply ≡ reply_for kind → op ≡ model_op kind → (is_lent reply (job_loan n kind) && is_asked reply op) ≡ true
 asks_entry n kind reply op e f = (λ i. is_lent (e i) (job_loan n kind) && is_asked (e i) (f i)) ∙ asks_kind n kind
 
 pub asks_list : (replies : ℕ → Reply) (n : ℕ) (jobs : List Job) → Replies replies n jobs → AllValid jobs → AllInRange jobs → AllByRecursion (λ t. asks replies t ≡ true) (all_taken (offers_from n jobs))

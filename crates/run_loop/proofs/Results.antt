@@ -162,7 +162,7 @@ sync_heard : (files : machine.Files) (buf : List ℕ) (o : Option (List ℕ)) �
 sync_heard files buf None = refl
 sync_heard files buf (Some file) = refl
 
-step_heard : (op : machine.Op) (files : machine.Files) (other : ℕ → Bool) (buf : List ℕ) → is_sync op ≡ true → is_heard Success (machine.step files other op buf).result ≡ true
+step_heard : (op : machine.ModelOp) (files : machine.Files) (other : ℕ → Bool) (buf : List ℕ) → is_sync op ≡ true → is_heard Success (machine.step files other op buf).result ≡ true
 unfolding machine.step
 step_heard machine.Nop files other buf e = cc
 step_heard (machine.Read file offset) files other buf e = cc
@@ -172,7 +172,7 @@ step_heard (machine.Ftruncate file len) files other buf e = cc
 step_heard (machine.Cancel job) files other buf e = cc
 step_heard (machine.Refused code) files other buf e = cc
 
-answer_heard : (reply : Reply) (cut : Bool) (op : machine.Op) (files : machine.Files) (other : ℕ → Bool) (buf : List ℕ) → is_asked reply op ≡ true → is_heard reply (cond cut (machine.canceled files buf) (machine.step files other op buf)).result ≡ true
+answer_heard : (reply : Reply) (cut : Bool) (op : machine.ModelOp) (files : machine.Files) (other : ℕ → Bool) (buf : List ℕ) → is_asked reply op ≡ true → is_heard reply (cond cut (machine.canceled files buf) (machine.step files other op buf)).result ≡ true
 answer_heard Plain cut op files other buf e = refl
 answer_heard Buffer cut op files other buf e = refl
 answer_heard Success true op files other buf e = refl

@@ -23,7 +23,7 @@ use Rattle.rent_engine.specs.declared.ops.TurnReport.{TurnReport}
 use Rattle.rent_engine.specs.Ops.{Ops, Pumps}
 use Rattle.rent_engine.specs.Engines.{Reaped, finals_in}
 use Rattle.rent_engine.specs.Faults.{ending, engine_fault_of}
-use Rattle.rent_engine.specs.Turns.{TurnEnds, Turned}
+use Rattle.rent_engine.specs.Turns.{TurnEnds, EngineTurned}
 use Rattle.run_loop.specs.declared.slot.Slot.{Slot}
 use Rattle.run_loop.specs.Slots.{land_all, stranger_among, any_final}
 use Rattle.run_loop.specs.Flights.{all_polled, AreOperated, NoneResolved}
@@ -118,7 +118,7 @@ module _ {W : Type 0} (mach : schedule.Machine W) {P R : Type 0} (log : P → Op
   }
 
   module _ (moved_told : (a b : R) (ts : List Taken) (cs : List Completion) → moved a ts cs b → WhereTold (λ l m. Moves kept l ts cs m) (lists a) (lists b)) (fits : (r : R) → IfSome (lists r) HasRoom)
-      (params : Parameters) (old new : P) (from mid to : R) (ops ops' : Ops) (result : Result TurnReport EngineFault) (t : Turned mach log state lists ready space moved flags_word used room waiting params old new mid to ops ops' result)
+      (params : Parameters) (old new : P) (from mid to : R) (ops ops' : Ops) (result : Result TurnReport EngineFault) (t : EngineTurned mach log state lists ready space moved flags_word used room waiting params old new mid to ops ops' result)
       (a : Lists) (ts : List Taken) (told : lists from ≡ Some a) (begun : Becomes (lists from) (pushed_more ts) (lists mid)) where
     at_is : lists t.submitted.shown ≡ Some (offered_to a ts)
     at_is = entered_at a ts (lists from) (lists mid) (lists t.submitted.shown) told begun t.submitted.told

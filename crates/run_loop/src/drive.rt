@@ -18,7 +18,7 @@ ghost use Rattle.run_loop.specs.Flights.{IsSettled};
 
 use crate::job_table::JobTable;
 use crate::laws::model_laws;
-use crate::offers::Offers;
+use crate::offers::OfferQueue;
 use crate::round::round;
 use partner_traits::Partner;
 use rent_engine::Engine;
@@ -41,7 +41,7 @@ pub fn drive<R: UserEnds + PartnerSide, P: Partner>(
     idle: u32,
     engine: &mut Engine<R>,
     partner: &mut P,
-    todo: &mut Offers,
+    todo: &mut OfferQueue,
     table: &mut JobTable,
 ) -> Result<(), RunFault>
     requires idle { 0 < idle }

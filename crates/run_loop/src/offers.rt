@@ -19,13 +19,13 @@ pub struct Due {
 /// The jobs that are still to be offered, seen as the entries that they become. An entry is made
 /// when its turn comes, so no list of all entries is built before the run.
 #[derive(Drop)]
-pub struct Offers {
+pub struct OfferQueue {
     jobs: VecDeque<Job>,
     // The number of the job in front.
     number: u64,
 }
 
-impl Model for Offers {
+impl Model for OfferQueue {
     ghost use Rattle.std.specs.Prelude.{◌+◌, ◌<◌, ◌^◌, List, length};
     ghost use Rattle.run_loop.specs.Entries.{AllValid, offers_from};
     ghost use Rattle.run_loop.specs.declared.entries.Offer.{Offer};
@@ -37,13 +37,13 @@ impl Model for Offers {
     ghost invariant = { λ offers. AllValid offers.jobs.items × (offers.number + length offers.jobs.items < 2 ^ 64) };
 }
 
-impl Offers {
+impl OfferQueue {
     /// The entries of all jobs, in their order.
-    pub fn new(jobs: Vec<Job>) -> Offers
+    pub fn new(jobs: Vec<Job>) -> OfferQueue
         requires { AllValid jobs.items }
         ensures { result ≡ offers_from 0 jobs.items }
     {
-        Offers {
+        OfferQueue {
             jobs: VecDeque::from_vec(jobs),
             number: 0,
         }

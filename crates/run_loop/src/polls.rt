@@ -57,7 +57,7 @@ fn sync_outcome(answer: Result<(), FsError>) -> Outcome
 }
 
 /// What a resolved operation gives its job.
-fn outcome_of(done: OpDone) -> Outcome
+fn job_outcome(done: OpDone) -> Outcome
     ensures { result ≡ outcome_polled replies.Plain done }
 {
     let OpDone { result, buf, .. } = done;
@@ -99,7 +99,7 @@ fn poll_plain<R: UserEnds>(engine: &mut Engine<R>, key: OpKey) -> JobPoll
     ensures { (n : ℕ) → CanBePolled engine.old.ops n (JobOp.Plain key) → IsPolled R.lists R.room R.waiting n (reply_of (JobOp.Plain key)) engine.old.ring engine.new.ring engine.old.ops engine.new.ops result }
 {
     match engine.poll(key) {
-        OpPoll::Ready(done) => JobPoll::Ready(outcome_of(done)),
+        OpPoll::Ready(done) => JobPoll::Ready(job_outcome(done)),
         OpPoll::Pending(key) => JobPoll::Pending(JobOp::Plain(key)),
         OpPoll::Lost(_) => unreachable!(),
     }

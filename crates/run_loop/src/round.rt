@@ -10,7 +10,7 @@ ghost use Rattle.run_loop.specs.Entries.{all_taken, job_entry, job_loan, offer_o
 ghost use Rattle.run_loop.specs.Flights.{IsAhead, IsSettled, AreOperated, AreReplied, NoneResolved, jobs_in_flight};
 
 use crate::job_table::JobTable;
-use crate::offers::{Due, Offers};
+use crate::offers::{Due, OfferQueue};
 use crate::starts::start_job;
 use partner_traits::Partner;
 use rent_engine::{Engine, EngineFault};
@@ -53,7 +53,7 @@ fn start<R: UserEnds>(
 fn start_some<R: UserEnds>(
     alloc: Global,
     engine: &mut Engine<R>,
-    todo: &mut Offers,
+    todo: &mut OfferQueue,
     table: &mut JobTable,
 ) -> Result<(), RunFault>
     requires inside { table.old.started + length todo.old ≤ vec_len table.old.slots }
@@ -95,7 +95,7 @@ pub fn round<R: UserEnds + PartnerSide, P: Partner>(
     alloc: Global,
     engine: &mut Engine<R>,
     partner: &mut P,
-    todo: &mut Offers,
+    todo: &mut OfferQueue,
     table: &mut JobTable,
 ) -> Result<bool, RunFault>
     requires calm { (l : Lists) × (R.lists engine.old.ring ≡ Some l) × IsCalm l (R.room engine.old.ring) }

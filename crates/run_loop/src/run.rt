@@ -16,7 +16,7 @@ use crate::drive::drive;
 use crate::entries::first_bad_job;
 use crate::job_table::JobTable;
 use crate::laws::model_laws;
-use crate::offers::Offers;
+use crate::offers::OfferQueue;
 use crate::slot::Slot;
 use partner_traits::Partner;
 use rent_engine::Engine;
@@ -90,7 +90,7 @@ fn run_over<R: UserEnds + PartnerSide + Drop, P: Partner>(
     let Ok(mut table) = JobTable::new(alloc, &jobs) else {
         return Err(RunFault::NoMemory);
     };
-    let mut todo = Offers::new(jobs);
+    let mut todo = OfferQueue::new(jobs);
     let mut engine = Engine::new(alloc, ring, params);
     drive(alloc, idle, &mut engine, partner, &mut todo, &mut table)?;
     report_of(alloc, table, partner, start)

@@ -17,8 +17,3 @@ on (Fixed i) entry = record entry { fd = cast_signed w32 i; flags = bit_or entry
 abbrev pub number_of : Target → ℕ
 number_of (Fd n) = bits_of n
 number_of (Fixed i) = i
-
--- the mark of a registered file that stands in an unsigned word: the highest bit of the operation's flags
-abbrev pub registered_mark : Target → ℕ
-registered_mark (Fd n) = 0
-registered_mark (Fixed i) = 0x8000_0000

@@ -5,7 +5,7 @@ use Rattle.std.proofs.lemmas.List.{length-take}
 use Rattle.std.specs.FinMap.{get}
 use Rattle.uring_base.specs.Loans.{part_of}
 use Rattle.uring_model.specs.declared.machine.TheConstants.{MAX_FILE_LEN}
-use Rattle.uring_model.specs.Machine.{Files, Op, Nop, Read, Write, Fsync, Ftruncate, Cancel, Refused, FileAnswer, read_into, read_answer, write_answer, sync_answer, truncate_answer, step}
+use Rattle.uring_model.specs.Machine.{Files, ModelOp, Nop, Read, Write, Fsync, Ftruncate, Cancel, Refused, FileAnswer, read_into, read_answer, write_answer, sync_answer, truncate_answer, step}
 use Rattle.uring_model.specs.Partner.{job_of, Cursor, answer_to}
 
 either_length : (b : Bool) (x y : FileAnswer) (n : ℕ) → length x.buf ≡ n → length y.buf ≡ n → length (cond b x y).buf ≡ n
@@ -32,7 +32,7 @@ truncate_length : (files : Files) (n len : ℕ) (buf : List ℕ) (file : Option 
 truncate_length files n len buf None = refl
 truncate_length files n len buf (Some file) = either_length (nat_lt MAX_FILE_LEN len) _ _ _ refl refl
 
-pub step-length : (files : Files) (other : ℕ → Bool) (op : Op) (buf : List ℕ) → length (step files other op buf).buf ≡ length buf
+pub step-length : (files : Files) (other : ℕ → Bool) (op : ModelOp) (buf : List ℕ) → length (step files other op buf).buf ≡ length buf
 unfolding step
 step-length files other Nop buf = refl
 step-length files other (Read f o) buf = read_length files o buf (get files f)

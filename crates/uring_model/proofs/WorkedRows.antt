@@ -8,12 +8,12 @@ use Rattle.uring_base.specs.declared.events.Event.{Event}
 use Rattle.uring_base.specs.declared.events.Event.TheVariants.{Turn, Take, Post}
 use Rattle.uring_model.specs.declared.jobs.Link.{Link}
 use Rattle.uring_model.specs.declared.jobs.Link.TheVariants.{Free, Soft, Hard}
-use Rattle.uring_model.specs.Machine.{Files, Op, Nop, Read, Write, Fsync, Ftruncate, Cancel, step}
+use Rattle.uring_model.specs.Machine.{Files, ModelOp, Nop, Read, Write, Fsync, Ftruncate, Cancel, step}
 use Rattle.uring_model.specs.Jobs.{Job}
 use Rattle.uring_model.specs.Replay.{Result, replay, first_state, table, IsBusy}
 use Rattle.uring_model.specs.Chosen.{IsChosen}
 
-abbrev job : Op → List ℕ → Job
+abbrev job : ModelOp → List ℕ → Job
 job op buf = record { op = op; buf = buf; drain = false; link = Free }
 
 abbrev linking : Link → Job → Job

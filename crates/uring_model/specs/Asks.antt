@@ -13,11 +13,11 @@ use Rattle.uring_base.specs.declared.opcodes.TheConstants as opcodes
 use Rattle.uring_base.specs.Loans.{part_of}
 use Rattle.uring_model.specs.declared.jobs.Link.{Link}
 use Rattle.uring_model.specs.declared.jobs.Link.TheVariants.{Free, Soft, Hard}
-use Rattle.uring_model.specs.Machine.{Op, Nop, Read, Write, Fsync, Ftruncate, Cancel, Refused}
+use Rattle.uring_model.specs.Machine.{ModelOp, Nop, Read, Write, Fsync, Ftruncate, Cancel, Refused}
 use Rattle.uring_model.specs.Jobs.{Job}
 
 -- a read or write without a loan, or with a part whose length is no result, is refused
-abbrev pub unless_lacking : Option Loan → Op → Op
+abbrev pub unless_lacking : Option Loan → ModelOp → ModelOp
 unless_lacking None op = Refused (error_result EINVAL)
 unless_lacking (Some l) op = cond (nat_lt MAX_BUFFER (length (part_of (Some l)))) (Refused (error_result EINVAL)) op
 
@@ -26,7 +26,7 @@ abbrev pub file_of : Entry → ℕ
 file_of e = cast_unsigned w32 e.fd
 
 -- The operation of an entry. Buffer selection isn't served; a cancel is served by number alone.
-abbrev pub op_of : Taken → Op
+abbrev pub op_of : Taken → ModelOp
 op_of t =
     cond (has_flags t.entry.flags BUFFER_SELECT) (Refused (error_result EOPNOTSUPP))
     (cond (nat_eq t.entry.opcode opcodes.NOP) Nop
@@ -46,7 +46,7 @@ abbrev pub job_of : Taken → Job
 job_of t = record { op = op_of t; buf = part_of t.loan; drain = has_flags t.entry.flags IO_DRAIN; link = link_of t.entry.flags }
 
 -- whether this is one of the six operations that jobs ask
-abbrev pub is_job_operation : Op → Bool
+abbrev pub is_job_operation : ModelOp → Bool
 is_job_operation Nop = true
 is_job_operation (Read file offset) = true
 is_job_operation (Write file offset) = true

@@ -8,14 +8,14 @@ use Rattle.uring_model.specs.declared.jobs.RunFault.{RunFault}
 use Rattle.uring_model.specs.declared.jobs.RunFault.TheVariants.{BadSize, BadJob, Stranger, Stalled, PartnerFault, NoMemory}
 
 -- its kind: what the caller gave isn't valid, there is no memory, or the partner failed
-abbrev pub kind_of : RunFault → ErrorKind
-kind_of BadSize = InvalidInput
-kind_of (BadJob job) = InvalidInput
-kind_of (Stranger job) = Other
-kind_of Stalled = Other
-kind_of PartnerFault = Other
-kind_of NoMemory = OutOfMemory
+abbrev pub run_fault_kind : RunFault → ErrorKind
+run_fault_kind BadSize = InvalidInput
+run_fault_kind (BadJob job) = InvalidInput
+run_fault_kind (Stranger job) = Other
+run_fault_kind Stalled = Other
+run_fault_kind PartnerFault = Other
+run_fault_kind NoMemory = OutOfMemory
 
 -- the error of the system has its kind
 abbrev pub HasKindOf : RunFault → Error → Type 0
-HasKindOf fault error = error_kind error ≡ kind_of fault
+HasKindOf fault error = error_kind error ≡ run_fault_kind fault

@@ -6,11 +6,11 @@ use Rattle.uring_model.specs.declared.jobs.Link.TheVariants.{Free, Soft, Hard}
 use Rattle.uring_model.specs.declared.jobs.Job as code
 use Rattle.uring_model.specs.declared.jobs.JobKind.{JobKind}
 use Rattle.uring_model.specs.declared.jobs.JobKind.TheVariants as kinds
-use Rattle.uring_model.specs.Machine.{Op, Nop, Read, Write, Fsync, Ftruncate, Cancel, Refused}
+use Rattle.uring_model.specs.Machine.{ModelOp, Nop, Read, Write, Fsync, Ftruncate, Cancel, Refused}
 
 -- what it asks, its buffer (empty where it has none), and its marks
 pub record Job : Type 0 where
-  pub op : Op
+  pub op : ModelOp
   pub buf : List ℕ
   pub drain : Bool
   pub link : Link
@@ -28,7 +28,7 @@ is_soft Soft = true
 is_soft Hard = false
 
 -- a read or write, which alone has a buffer
-abbrev pub moves_bytes : Op → Bool
+abbrev pub moves_bytes : ModelOp → Bool
 moves_bytes Nop = false
 moves_bytes (Read file offset) = true
 moves_bytes (Write file offset) = true
@@ -42,7 +42,7 @@ abbrev pub is_valid_at : ℕ → List ℕ → Bool
 is_valid_at offset buf = nat_le (length buf) MAX_BUFFER && nat_le (offset + length buf) MAX_POSITION
 
 -- the operation's numbers are in range
-abbrev pub is_valid_op : Op → List ℕ → Bool
+abbrev pub is_valid_op : ModelOp → List ℕ → Bool
 is_valid_op Nop buf = true
 is_valid_op (Read file offset) buf = is_valid_at offset buf
 is_valid_op (Write file offset) buf = is_valid_at offset buf
@@ -58,7 +58,7 @@ is_valid_job job = is_valid_op job.op job.buf
 -- a job of the program
 
 -- the operation that it asks
-abbrev pub model_op : JobKind → Op
+abbrev pub model_op : JobKind → ModelOp
 model_op kinds.Nop = Nop
 model_op (kinds.Read file offset buf) = Read file offset
 model_op (kinds.Write file offset buf) = Write file offset

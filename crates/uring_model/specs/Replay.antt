@@ -4,7 +4,7 @@ use Rattle.std.specs.Ordering.{int_eq}
 use Rattle.uring_base.specs.declared.events.Event.{Event}
 use Rattle.uring_base.specs.declared.events.Event.TheVariants.{Turn, Take, Post}
 use Rattle.uring_model.specs.declared.jobs.Link.TheVariants.{Free}
-use Rattle.uring_model.specs.Machine.{Files, Op, FileAnswer, step, canceled}
+use Rattle.uring_model.specs.Machine.{Files, ModelOp, FileAnswer, step, canceled}
 use Rattle.uring_model.specs.Jobs.{Job, linked, is_soft, moves_bytes}
 
 -- what came of a job
@@ -24,7 +24,7 @@ pub record ReplayState : Type 0 where
   pub rest : List Job
 
 -- the result that a job is due at least: its buffer's length for a Read or Write
-abbrev pub due : Op → List ℕ → ℕ
+abbrev pub due : ModelOp → List ℕ → ℕ
 due op buf = if moves_bytes op then length buf else 0
 
 -- a failure, or a count that is less

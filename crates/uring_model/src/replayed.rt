@@ -63,7 +63,7 @@ impl Replayed {
         let mut outcomes = Vec::new(alloc);
         let mut rows = VecDeque::from_vec(self.rows);
         while let Some(row) = rows.pop_front() {
-            outcomes.push(outcome_of(row))?;
+            outcomes.push(row_outcome(row))?;
         }
         add_open(&mut outcomes, self.rest.len())?;
         Ok(outcomes)
@@ -140,7 +140,7 @@ fn is_result(answered: Answered, outcome: i32) -> bool
     answered.result == outcome
 }
 
-fn outcome_of(row: Row) -> Option<Outcome>
+fn row_outcome(row: Row) -> Option<Outcome>
     ensures { result ∷ [] ≡ outcomes_told (row_in row ∷ []) }
 {
     let Row { job, outcome, .. } = row;

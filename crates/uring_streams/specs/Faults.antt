@@ -4,7 +4,7 @@ use Rattle.std.specs.declared.io.ErrorKind.TheVariants.{Other, FileTooLarge, Out
 use Rattle.uring_streams.specs.declared.read.InputFault.{InputFault}
 use Rattle.uring_streams.specs.declared.read.InputFault.TheVariants.{ReadFault, TooLong, NoMemory}
 
-abbrev pub kind_of : InputFault → ErrorKind
-kind_of ReadFault = Other
-kind_of TooLong = FileTooLarge
-kind_of NoMemory = OutOfMemory
+abbrev pub input_fault_kind : InputFault → ErrorKind
+input_fault_kind ReadFault = Other
+input_fault_kind TooLong = FileTooLarge
+input_fault_kind NoMemory = OutOfMemory

@@ -3,7 +3,7 @@
 ghost use Rattle.std.specs.Prelude.{◌≡◌, ◌≤◌, IfOk, IfErr};
 ghost use Rattle.uring_streams.specs.Inputs.{GaveFront, IsRefusedFor, IsWholeInput};
 ghost use Rattle.uring_streams.specs.declared.read.InputFault.TheVariants.{NoMemory, ReadFault};
-ghost use Rattle.uring_streams.specs.Faults.{kind_of};
+ghost use Rattle.uring_streams.specs.Faults.{input_fault_kind};
 ghost use Rattle.std.specs.IoError.{error_kind};
 
 use crate::traits::{Failed, Source};
@@ -46,7 +46,7 @@ impl From<Failed> for InputFault {
 }
 
 impl From<InputFault> for io::Error {
-    ghost from_gives = { λ fault e. error_kind e ≡ kind_of fault };
+    ghost from_gives = { λ fault e. error_kind e ≡ input_fault_kind fault };
 
     fn from(fault: InputFault) -> io::Error {
         io::Error::from(match fault {

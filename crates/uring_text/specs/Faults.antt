@@ -4,6 +4,6 @@ use Rattle.std.specs.declared.io.ErrorKind.TheVariants.{InvalidData, OutOfMemory
 use Rattle.uring_text.specs.declared.script.ScriptFault.{ScriptFault}
 use Rattle.uring_text.specs.declared.script.ScriptFault.TheVariants.{Line, NoMemory}
 
-abbrev pub kind_of : ScriptFault → ErrorKind
-kind_of (Line number) = InvalidData
-kind_of NoMemory = OutOfMemory
+abbrev pub script_fault_kind : ScriptFault → ErrorKind
+script_fault_kind (Line number) = InvalidData
+script_fault_kind NoMemory = OutOfMemory

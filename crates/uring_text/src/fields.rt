@@ -9,7 +9,7 @@ use std::alloc::{AllocError, Global};
 use uring_base::Buf;
 
 /// Where the first `at` stands.
-fn place_of(bytes: &[u8], at: u8) -> Option<usize>
+fn find_byte(bytes: &[u8], at: u8) -> Option<usize>
     ensures { result ≡ position (λ b. b == at) bytes.now }
 {
     bytes.iter().position(|b| *b == at)
@@ -21,7 +21,7 @@ pub fn cut(bytes: &[u8], at: u8) -> Option<(&[u8], &[u8])>
         (λ x. slice_split (λ b. b == at) bytes.now ≡ x.0.now ∷ slice_split (λ b. b == at) x.1.now) }
     ensures shorter { IfSome result (λ x. length x.1.now < length bytes.now) }
 {
-    let place = place_of(bytes, at)?;
+    let place = find_byte(bytes, at)?;
     Some((&bytes[..place], &bytes[place + 1..]))
 }
 

@@ -3,7 +3,7 @@
 ghost use Rattle.std.specs.Prelude.{◌≡◌};
 ghost use Rattle.std.specs.IoError.{error_kind};
 ghost use Rattle.uring_text.specs.declared.script.ScriptFault.TheVariants.{NoMemory};
-ghost use Rattle.uring_text.specs.Faults.{kind_of};
+ghost use Rattle.uring_text.specs.Faults.{script_fault_kind};
 
 use std::alloc::AllocError;
 use std::io::{self, ErrorKind};
@@ -64,7 +64,7 @@ impl From<AllocError> for ScriptFault {
 }
 
 impl From<ScriptFault> for io::Error {
-    ghost from_gives = { λ fault e. error_kind e ≡ kind_of fault };
+    ghost from_gives = { λ fault e. error_kind e ≡ script_fault_kind fault };
 
     fn from(fault: ScriptFault) -> io::Error {
         io::Error::from(match fault {
