@@ -5,7 +5,7 @@ This is a second reading of docs/DEFINITIONS.md, written from its sentences over
 from nothing in crates/: what is linked, severed and may settle, what one settling gives, and how
 a turn goes. It works out the report of the program's stored run, crates/uring_cli/stdin under the
 words of crates/uring_cli/args, and a table of scripts and reports, whose test in
-crates/cross_tests/src/tests/scripts.rt runs each.
+crates/run_tests/src/tests/scripts.rt runs each.
 
     python3 bench/script_table.py           writes both files
     python3 bench/script_table.py --check   says whether the files are what it would write
@@ -16,7 +16,7 @@ import sys
 
 LIMIT = 16_777_216
 CRATES = pathlib.Path(__file__).parent.parent / "crates"
-TABLE = CRATES / "cross_tests/src/tests/scripts/table.rt"
+TABLE = CRATES / "run_tests/src/tests/scripts/table.rt"
 PROGRAM = CRATES / "uring_cli"
 
 # Each row has the sizes of both rings, the position at which they begin, and a script.

@@ -8,6 +8,3 @@ mod numbers;
 mod tree;
 
 pub use numbers::FreeNumbers;
-
-#[cfg(test)]
-mod tests;

@@ -13,6 +13,3 @@ mod waiters;
 
 pub use operations::Operations;
 pub use ops::{Flight, OpDone, Step};
-
-#[cfg(test)]
-mod tests;

@@ -19,6 +19,3 @@ pub use parameters::Parameters;
 pub use ring_flags::{CompletionRingFlags, SubmissionFlags};
 pub use settings::Settings;
 pub use setup_flags::SetupFlags;
-
-#[cfg(test)]
-mod tests;

@@ -21,6 +21,3 @@ pub mod words;
 pub use buffer::{Buf, Loan};
 pub use events::{Completion, Event, LogEvent, Taken};
 pub use lists::Nums;
-
-#[cfg(test)]
-mod tests;

@@ -4,13 +4,7 @@
 
 mod completion_bytes;
 mod completion_marker;
-#[cfg(test)]
-mod completion_tests;
 pub mod cqueue;
 mod entry_bytes;
 mod entry_marker;
-#[cfg(test)]
-mod entry_tests;
-#[cfg(test)]
-mod marker_tests;
 pub mod squeue;

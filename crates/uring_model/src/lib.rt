@@ -26,6 +26,3 @@ pub use operation::{Operation, has_link, has_soft_link, is_drained, operation_of
 pub use pending::Pending;
 pub use replayed::{Replayed, replay};
 pub use rows::{Row, Settled, have_counts};
-
-#[cfg(test)]
-mod tests;

@@ -29,6 +29,3 @@ pub use syncs::{Fsync, SyncFileRange};
 pub use tables::FilesUpdate;
 pub use timeouts::{LinkTimeout, Timeout, TimeoutRemove, TimeoutUpdate};
 pub use writes::{Write, WriteFixed, Writev};
-
-#[cfg(test)]
-mod tests;

@@ -31,6 +31,3 @@ pub use pipes::{Pipe, Splice, Tee};
 pub use reads::{ReadMulti, ReadvFixed};
 pub use waits::{FutexWait, FutexWaitV, FutexWake, WaitId};
 pub use writes::WritevFixed;
-
-#[cfg(test)]
-mod tests;

@@ -19,6 +19,3 @@ pub use ring_core::{Core, CoreAnswer, CoreAnswers, CoreStep, SetupError};
 pub use ring_setup::Parameters;
 pub use ring_traits::{PartnerSide, Rings, UserEnds};
 pub use submission_queue::{PushError, Refused, SubmissionQueue};
-
-#[cfg(test)]
-mod tests;

@@ -14,6 +14,3 @@ pub use read::{INPUT_LIMIT, InputFault, read_all};
 pub use standard::{StdSink, StdSource};
 pub use traits::{Failed, Sink, Source};
 pub use write::write_all;
-
-#[cfg(test)]
-mod tests;

@@ -22,6 +22,3 @@ pub use read::read_script;
 pub use report::report_text;
 pub use script::{Line, Script, ScriptFault, Seed};
 pub use status::{Status, status_text};
-
-#[cfg(test)]
-mod tests;

@@ -14,9 +14,6 @@ use crate::script::{Line, Script, ScriptFault, Seed};
 use std::alloc::{AllocError, Global};
 use uring_model::{Job, JobKind};
 
-#[cfg(test)]
-mod tests;
-
 /// The first line, and what follows it.
 fn next_line(text: &[u8]) -> Option<(&[u8], &[u8])>
     ensures lines { MatchOption result (lines_of text.now ≡ []) (λ x. lines_of text.now ≡ x.0.now ∷ lines_of x.1.now) }

@@ -9,9 +9,6 @@ use std::fmt::Write;
 use uring_base::{Buf, Event};
 use uring_model::{Outcome, Report, RunFault};
 
-#[cfg(test)]
-mod tests;
-
 /// Writes a buffer's bytes as hex, or a dash where there are none.
 fn put_buffer(alloc: Global, out: &mut String, buf: &Option<Buf>) -> Result<(), AllocError>
     ensures { OnOk result (string_bytes out.new ≡ string_bytes out.old ++ buffer_text buf.now) }

@@ -38,6 +38,3 @@ pub const IORING_ZCRX_AREA_SHIFT: u32 = 48;
 
 /// The bits of that number that hold the area's.
 pub const IORING_ZCRX_AREA_MASK: u64 = 0xffff_0000_0000_0000;
-
-#[cfg(test)]
-mod tests;

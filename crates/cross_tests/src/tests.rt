@@ -1,6 +1,0 @@
-mod engines;
-mod files;
-mod partners;
-mod runs;
-mod scripts;
-mod submits;

@@ -1,0 +1,7 @@
+mod base;
+mod file_builders;
+mod large_completions;
+mod large_entries;
+mod markers;
+mod path_builders;
+mod types;

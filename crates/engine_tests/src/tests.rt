@@ -1,0 +1,4 @@
+mod engines;
+mod files;
+mod numbers;
+mod operations;

@@ -1,0 +1,3 @@
+mod model;
+mod partners;
+mod submits;

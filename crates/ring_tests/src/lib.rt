@@ -1,0 +1,5 @@
+//! Tests of rings.
+#![tactic(auto)]
+
+#[cfg(test)]
+mod tests;

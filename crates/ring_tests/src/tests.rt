@@ -1,0 +1,3 @@
+mod cores;
+mod rings;
+mod settings;

@@ -1,0 +1,96 @@
+//! Texts, and the calls at both sizes of entries and of completions.
+
+use uring_ring::{Builder, IoUring, PartnerSide, PlainSide, PushError, SetupError, UserEnds};
+use std::process::Abort;
+use std::test::Fail;
+use uring_base::squeue::Entry;
+use uring_base::{Completion, Taken};
+use uring_large::cqueue::Entry32;
+use uring_large::squeue::Entry128;
+
+/// Each call that can find no memory answers otherwise where there is memory.
+#[test]
+fn each_call(rt: HostRuntime) -> Result<(), Fail> {
+    let alloc = rt.alloc();
+    let ring = IoUring::new(alloc, 3)?;
+    assert_eq!(rt; (ring.capacity(), ring.completion_capacity()), (4, 8));
+    assert_eq!(rt; IoUring::with_start(alloc, 4, 9)?.places(), (9, 9));
+    let mut builder: Builder = IoUring::builder();
+    let ring = builder.setup_cqsize(16).start(7).build(alloc, 4)?;
+    assert_eq!(rt; ring.completion_capacity(), 16);
+    assert_eq!(rt; IoUring::new(alloc, 0).err(), Some(SetupError::Invalid));
+    Ok(())
+}
+
+/// A large entry whose 64 further bytes hold the job's number.
+fn large_job(number: u8) -> Entry128 {
+    Entry128 {
+        entry: Entry::blank(0).user_data(number.into()),
+        big: [number; 64],
+    }
+}
+
+/// Asserts that an entry came with these further bytes.
+fn assert_taken(rt: &impl Abort, taken: Option<Taken>, number: u64, byte: u8) {
+    match taken {
+        Some(taken) => {
+            assert_eq!(rt; taken.entry.get_user_data(), number);
+            assert_eq!(rt; taken.big, [byte; 64]);
+        }
+        None => assert!(rt; false, "nothing to take"),
+    }
+}
+
+/// Large entries are taken with the bytes behind them; what is offered as a small entry has zeros
+/// there. The positions wrap between the first and the second.
+#[test]
+fn large_entries_go_through(rt: HostRuntime) -> Result<(), Fail> {
+    let mut builder: Builder<Entry128> = IoUring::builder();
+    let mut ring = builder.start(4294967295).build(rt.alloc(), 4)?;
+    let (mut submissions, mut completions) = ring.split();
+    assert!(rt; submissions.push(large_job(1), None).is_ok());
+    assert_eq!(rt; submissions.push_multiple(&[large_job(2)]), Ok(()));
+    submissions.sync();
+    let mut side = PlainSide::of(&mut submissions, &mut completions);
+    assert_eq!(rt; side.published(), 2);
+    assert_taken(&rt, side.take(), 1, 1);
+    drop(submissions);
+    drop(completions);
+    assert!(rt; ring.offer(Entry::blank(0).user_data(4), None).is_ok());
+    ring.publish();
+    assert_taken(&rt, ring.take(), 2, 2);
+    assert_taken(&rt, ring.take(), 4, 0);
+    Ok(())
+}
+
+fn posted(number: u64) -> Completion {
+    Completion {
+        user_data: number,
+        result: -5,
+        flags: 7,
+        big: [1, 2],
+        loan: None,
+    }
+}
+
+/// A ring of large completion entries keeps the two further numbers, for both kinds of ends.
+#[test]
+fn large_completions_go_through(rt: HostRuntime) -> Result<(), Fail> {
+    let mut builder: Builder<Entry, Entry32> = IoUring::builder();
+    let mut ring = builder.start(4294967295).build(rt.alloc(), 1)?;
+    assert!(rt; ring.post(posted(1)).is_ok());
+    assert!(rt; ring.post(posted(3)).is_ok());
+    assert_eq!(rt;
+        ring.completion().next().map(|received| received.entry),
+        Some(Entry32::from_parts(1, -5, 7, [1, 2]))
+    );
+    assert_eq!(rt; ring.reap().map(|completion| completion.big), Some([1, 2]));
+    Ok(())
+}
+
+#[test]
+fn text_of_a_full_queue(rt: HostRuntime) -> Result<(), Fail> {
+    let text = format!(in rt.alloc(); "{}", PushError)?;
+    assert_eq!(rt; text.as_str(), "submission queue is full");
+    Ok(())
+}
