@@ -8,40 +8,45 @@ fn each_call(rt: HostRuntime) -> Result<(), Fail> {
     let mut operations = Operations::new(rt.alloc());
     assert!(rt; operations.reserve(3).is_ok());
     assert!(rt; operations.reserve_step().is_ok());
-    assert!(rt; operations.new_handle().is_ok());
+    assert!(rt; joins_twice(&mut operations).is_ok());
     Ok(())
 }
 
-/// An operation is joined to two handles, and then both are asked for what is joined to them.
-#[test]
-fn each_call_of_handles(rt: HostRuntime) -> Result<(), Fail> {
-    let mut operations = Operations::new(rt.alloc());
-    let handles = two_handles(&mut operations)?;
-    start(&mut operations, 9)?;
-    assert!(rt; operations.join(handles.0, 9).is_ok());
-    assert!(rt; operations.join(handles.1, 9).is_ok());
-    assert!(rt; operations.joined(handles.1).is_ok());
-    Ok(())
-}
-
-/// The joins of an operation end with it, and no others.
+/// The joins of an operation end with it, and no others. Of the operations 9, 2 and 5 the first is
+/// joined to both handles, and the last to the first handle.
 #[test]
 fn joins_end(rt: HostRuntime) -> Result<(), Fail> {
     let mut operations = Operations::new(rt.alloc());
-    let handles = two_handles(&mut operations)?;
-    start_three(&mut operations)?;
-    join_two(&mut operations, handles)?;
-    assert!(rt; has_joined(&operations, handles.0, &[5, 9])?);
-    assert!(rt; has_joined(&operations, handles.1, &[9])?);
+    let (first, second) = three_started(&mut operations)?;
+    assert!(rt; are_joined(&operations, first, &[5, 9], second, &[9])?);
     resolve(&mut operations, 9);
-    assert!(rt; has_joined(&operations, handles.0, &[5])?);
-    assert!(rt; has_joined(&operations, handles.1, &[])?);
+    assert!(rt; are_joined(&operations, first, &[5], second, &[])?);
     Ok(())
+}
+
+/// An operation is joined to two handles, and what is joined to the second is listed.
+fn joins_twice(operations: &mut Operations) -> Result<Vec<u64>, AllocError> {
+    let (first, second) = two_handles(operations)?;
+    start(operations, 9)?;
+    operations.join(first, 9)?;
+    operations.join(second, 9)?;
+    operations.joined(second)
 }
 
 fn two_handles(operations: &mut Operations) -> Result<(CancelHandle, CancelHandle), AllocError> {
     let first = operations.new_handle()?;
     let second = operations.new_handle()?;
+    Ok((first, second))
+}
+
+fn three_started(operations: &mut Operations) -> Result<(CancelHandle, CancelHandle), AllocError> {
+    let (first, second) = two_handles(operations)?;
+    start(operations, 9)?;
+    start(operations, 2)?;
+    start(operations, 5)?;
+    operations.join(first, 9)?;
+    operations.join(second, 9)?;
+    operations.join(first, 5)?;
     Ok((first, second))
 }
 
@@ -51,22 +56,6 @@ fn start(operations: &mut Operations, number: u64) -> Result<(), AllocError> {
         operations.start(number, false);
     }
     Ok(())
-}
-
-fn start_three(operations: &mut Operations) -> Result<(), AllocError> {
-    start(operations, 9)?;
-    start(operations, 2)?;
-    start(operations, 5)
-}
-
-/// Joins 9 and 5 to the first handle, and 9 to the second.
-fn join_two(
-    operations: &mut Operations,
-    handles: (CancelHandle, CancelHandle),
-) -> Result<(), AllocError> {
-    operations.join(handles.0, 9)?;
-    operations.join(handles.0, 5)?;
-    operations.join(handles.1, 9)
 }
 
 fn resolve(operations: &mut Operations, number: u64) {
@@ -79,6 +68,17 @@ fn resolve(operations: &mut Operations, number: u64) {
         };
         operations.resolve(number, flight, outcome);
     }
+}
+
+/// Whether exactly these numbers are joined to each of the two handles.
+fn are_joined(
+    operations: &Operations,
+    first: CancelHandle,
+    to_first: &[u64],
+    second: CancelHandle,
+    to_second: &[u64],
+) -> Result<bool, AllocError> {
+    Ok(has_joined(operations, first, to_first)? && has_joined(operations, second, to_second)?)
 }
 
 fn has_joined(
