@@ -1,5 +1,5 @@
 -- What quiet ends make of the operations, and that they reach exactly what hangs on the number.
-use Rattle.std.proofs.Common.{◌≡◌, ℕ, zero, suc, ◌+◌, ◌==◌, ◌||◌, ◌&&◌, Bool, true, false, cond, List, [], ◌∷◌, ◌++◌, length, Option, Some, None, is_some, refl, sym, ap, ◌∙◌, subst, T, arith, ◌⊎◌, inl, inr, eqb-true, eq-eqb}
+use Rattle.std.proofs.Common.{◌≡◌, ℕ, zero, suc, ◌+◌, ◌==◌, ◌||◌, ◌&&◌, Bool, true, false, cond, List, [], ◌∷◌, ◌++◌, length, Option, Some, None, is_some, unwrap_or, refl, sym, ap, ◌∙◌, subst, T, arith, ◌⊎◌, inl, inr, eqb-true, eq-eqb}
 use Rattle.std.specs.Ordering.{nat_cmp}
 use Rattle.std.specs.Cmp.{unsigned_tied}
 use Rattle.std.specs.FinMap.{FinMap, find, get, insert, len, entries, get-entries}
@@ -7,8 +7,9 @@ use Rattle.rent_table.proofs.Picks.{put_at, out_at, same_all, len-taken, nothing
 use Rattle.rent_table.specs.declared.ops.Flight.{Flight}
 use Rattle.rent_table.specs.declared.ops.OpDone.{OpDone}
 use Rattle.rent_table.specs.Ops.{Ops, flight_at, done_at, next_by, next_at, quiet_outcome, quietly_resolved_by, quietly_resolved, all_quietly_resolved, hangs_by, hangs, numbers_where, hanging, with_hanging_resolved}
-use Rattle.rent_table.specs.QuietEnds.{has, is_resolved, QuietlyEnding}
-use Rattle.rent_table.specs.Laws.{OnlyWhatHangs, FlightsAfter, OutcomesAfter}
+use Rattle.rent_table.specs.Lists.{has}
+use Rattle.rent_table.specs.QuietEnds.{is_resolved, QuietlyEnding}
+use Rattle.rent_table.specs.Laws.{OnlyWhatHangs, FlightsAfter, OutcomesAfter, JoinsAfter}
 
 pub both : (b : Bool) → (b ≡ true) ⊎ (b ≡ false)
 both true = inl refl
@@ -87,11 +88,39 @@ all_done (n ∷ ns) ops q =
     ∙ ap (λ d. cond (q == n) (done_told (cond (has q ns) None (flight_at ops q)) d) d) (all_done ns ops q)
     ∙ told_twice (q == n) (has q ns) (flight_at ops q) (done_at ops q)
 
+-- what a quiet end leaves as the joins of a number
+abbrev joins_told : Option Flight → Option (List ℕ) → Option (List ℕ)
+joins_told None joins = joins
+joins_told (Some f) joins = None
+
+told_joins_by : (o : Option Flight) (n : ℕ) (ops : Ops) (q : ℕ) (b : Bool) → flight_at ops n ≡ o → (q == n) ≡ b → get (quietly_resolved_by o n ops).joins q ≡ cond b (joins_told (flight_at ops q) (get ops.joins q)) (get ops.joins q)
+told_joins_by None n ops q true e same = ap (λ f. joins_told f (get ops.joins q)) (sym (ap (flight_at ops) (eqb-true q n same) ∙ e))
+told_joins_by None n ops q false e same = refl
+told_joins_by (Some f) n ops q true e same = out_at ops.joins n q ∙ ap (λ x. cond x None (get ops.joins q)) same ∙ ap (λ x. joins_told x (get ops.joins q)) (sym (ap (flight_at ops) (eqb-true q n same) ∙ e))
+told_joins_by (Some f) n ops q false e same = out_at ops.joins n q ∙ ap (λ x. cond x None (get ops.joins q)) same
+
+told_joins : (n : ℕ) (ops : Ops) (q : ℕ) → get (quietly_resolved n ops).joins q ≡ cond (q == n) (joins_told (flight_at ops q) (get ops.joins q)) (get ops.joins q)
+told_joins n ops q = told_joins_by (flight_at ops n) n ops q (q == n) refl refl
+
+joins_twice : (a b : Bool) (f : Option Flight) (d : Option (List ℕ)) → cond a (joins_told (cond b None f) (cond b (joins_told f d) d)) (cond b (joins_told f d) d) ≡ cond (a || b) (joins_told f d) d
+joins_twice true true f d = refl
+joins_twice true false f d = refl
+joins_twice false b f d = refl
+
+all_joins : (ns : List ℕ) (ops : Ops) (q : ℕ) → get (all_quietly_resolved ns ops).joins q ≡ cond (has q ns) (joins_told (flight_at ops q) (get ops.joins q)) (get ops.joins q)
+all_joins [] ops q = refl
+all_joins (n ∷ ns) ops q =
+    told_joins n (all_quietly_resolved ns ops) q
+    ∙ ap (λ f. cond (q == n) (joins_told f (get (all_quietly_resolved ns ops).joins q)) (get (all_quietly_resolved ns ops).joins q)) (all_flight ns ops q)
+    ∙ ap (λ d. cond (q == n) (joins_told (cond (has q ns) None (flight_at ops q)) d) d) (all_joins ns ops q)
+    ∙ joins_twice (q == n) (has q ns) (flight_at ops q) (get ops.joins q)
+
 -- lists with the same numbers come to the same
 same_told : (ns ms : List ℕ) (ops : Ops) → ((q : ℕ) → has q ns ≡ has q ms) → all_quietly_resolved ns ops ≡ all_quietly_resolved ms ops
 same_told ns ms ops h = λ i. record {
   in_flight = same_all (all_quietly_resolved ms ops).in_flight (all_quietly_resolved ns ops).in_flight (λ q. all_flight ns ops q ∙ ap (λ b. cond b None (flight_at ops q)) (h q) ∙ sym (all_flight ms ops q)) i;
   done = same_all (all_quietly_resolved ms ops).done (all_quietly_resolved ns ops).done (λ q. all_done ns ops q ∙ ap (λ b. cond b (done_told (flight_at ops q) (done_at ops q)) (done_at ops q)) (h q) ∙ sym (all_done ms ops q)) i;
+  joins = same_all (all_quietly_resolved ms ops).joins (all_quietly_resolved ns ops).joins (λ q. all_joins ns ops q ∙ ap (λ b. cond b (joins_told (flight_at ops q) (get ops.joins q)) (get ops.joins q)) (h q) ∙ sym (all_joins ms ops q)) i;
 }
 
 -- which numbers hang on u
@@ -334,3 +363,13 @@ resolved_flights u ops n = all_flight (hanging ops u) ops n ∙ ap (λ b. cond b
 
 pub resolved_outcomes : OutcomesAfter
 resolved_outcomes u ops n flight at = all_done (hanging ops u) ops n ∙ ap (λ b. cond b (done_told (flight_at ops n) (done_at ops n)) (done_at ops n)) (hanging_at ops u n) ∙ ap (λ o. cond (hangs (len ops.in_flight) ops u n) (done_told o (done_at ops n)) (done_at ops n)) at
+
+joins_by : (b : Bool) (o : Option Flight) (d : Option (List ℕ)) → (b ≡ true → is_some o ≡ true) → unwrap_or (cond b (joins_told o d) d) [] ≡ cond b [] (unwrap_or d [])
+joins_by true None d here = absurd (subst T (sym (here refl)) tt)
+joins_by true (Some f) d here = refl
+joins_by false o d here = refl
+
+pub resolved_joins : JoinsAfter
+resolved_joins u ops n =
+    ap (λ d. unwrap_or d []) (all_joins (hanging ops u) ops n ∙ ap (λ b. cond b (joins_told (flight_at ops n) (get ops.joins n)) (get ops.joins n)) (hanging_at ops u n))
+    ∙ joins_by (hangs (len ops.in_flight) ops u n) (flight_at ops n) (get ops.joins n) (hangs_in_flight (len ops.in_flight) ops u n)

@@ -45,6 +45,14 @@ module _ {V : Type 0} where
   pub picked-same : (es fs : List (ℕ × ℕ)) (s t : Slab V) → ((q : ℕ) → indexed_place fs q ≡ indexed_place es q) → ((p : ℕ) → get t p ≡ get s p) → picked (get t) fs ≡ picked (get s) es
   picked-same es fs s t h k = same_all _ _ (λ q. get-at (get t) fs q ∙ ap (option_and_then (get t)) (h q) ∙ and_then_same s t (indexed_place es q) (λ p at. k p) ∙ sym (get-at (get s) es q))
 
+  -- a number has a value where it has a place
+  at_by : (s : Slab V) (o : Option ℕ) → ((p : ℕ) → o ≡ Some p → is_some (get s p) ≡ true) → is_some (option_and_then (get s) o) ≡ is_some o
+  at_by s None taken = refl
+  at_by s (Some p) taken = taken p refl
+
+  pub at-some : (es : List (ℕ × ℕ)) (s : Slab V) (n : ℕ) → IsIndexed es s → is_some (map.get (picked (get s) es) n) ≡ is_some (indexed_place es n)
+  at-some es s n i = ap is_some (get-at (get s) es n) ∙ at_by s (indexed_place es n) (i.taken n)
+
   -- a value is put under a number, at a vacant place
   module _ (es fs : List (ℕ × ℕ)) (s t : Slab V) (n place : ℕ) (v : V) (h : (q : ℕ) → indexed_place fs q ≡ cond (n == q) (Some place) (indexed_place es q)) (vacant : get s place ≡ None) (u : Updates s t place (Some v)) (i : IsIndexed es s) where
     elsewhere : (q p : ℕ) → indexed_place es q ≡ Some p → get t p ≡ get s p

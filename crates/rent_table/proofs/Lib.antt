@@ -3,8 +3,10 @@ pub mod Indexed
 pub mod Linked
 pub mod Waits
 pub mod Parts
+pub mod Joining
 pub mod Endings
 pub mod Matching
+pub mod Members
 pub mod Depth
 pub mod Orders
 pub mod Listed

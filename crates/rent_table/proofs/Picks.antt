@@ -69,6 +69,14 @@ same_number m n q e = ap (get m) (sym (eqb-true n q e))
 pub nothing_out : {V : Type 0} (m : FinMap nat_cmp V) (n : ℕ) → get m n ≡ None → m ≡ remove m n
 nothing_out m n none = one_put m m n None (λ q. kept_out (n == q) (get m q) (λ e. same_number m n q e ∙ none))
 
+-- what stands already is put there
+stays : {V : Type 0} (b : Bool) (o p : Option V) → (b ≡ true → o ≡ p) → o ≡ cond b p o
+stays true o p h = h refl
+stays false o p h = refl
+
+pub put_same : {V : Type 0} (m : FinMap nat_cmp V) (n : ℕ) (o : Option V) → get m n ≡ o → put n o m ≡ m
+put_same m n o at = sym (one_put m m n o (λ q. stays (n == q) (get m q) o (λ e. same_number m n q e ∙ at)))
+
 -- how many
 none_there : {V : Type 0} (m : FinMap nat_cmp V) (n : ℕ) → len m ≡ 0 → is_some (get m n) ≡ false
 none_there m n e = ap (λ x. is_some (get x n)) (empty_of_len m e) ∙ ap is_some (get-empty nat_cmp n)

@@ -1,9 +1,9 @@
 -- What the end of a number makes of those in flight.
-use Rattle.std.specs.Prelude.{◌≡◌, ℕ, ◌+◌, ◌<◌, ◌≤◌, ◌↔◌, Bool, true, cond, Some, None}
+use Rattle.std.specs.Prelude.{◌≡◌, ℕ, ◌+◌, ◌<◌, ◌≤◌, ◌↔◌, Bool, true, cond, [], Some, None}
 use Rattle.std.specs.FinMap.{len}
 use Rattle.rent_table.specs.declared.ops.Flight.{Flight}
 use Rattle.rent_table.specs.declared.ops.OpDone.{OpDone}
-use Rattle.rent_table.specs.Ops.{Ops, flight_at, done_at, next_at, quiet_outcome, is_asked, hangs, resolved, with_hanging_resolved, AreApart}
+use Rattle.rent_table.specs.Ops.{Ops, flight_at, done_at, joined_to, next_at, quiet_outcome, is_asked, hangs, resolved, with_hanging_resolved, AreApart}
 
 -- What hangs on u is no more than it must be: what holds of those whose next number is u, and of those whose next
 -- number it holds of, holds of all.
@@ -17,6 +17,10 @@ FlightsAfter = (u : ℕ) (ops : Ops) (n : ℕ) → flight_at (with_hanging_resol
 -- what hangs on u has its quiet outcome, unless it was forgotten
 abbrev pub OutcomesAfter : Type 0
 OutcomesAfter = (u : ℕ) (ops : Ops) (n : ℕ) (flight : Flight) → flight_at ops n ≡ Some flight → done_at (with_hanging_resolved u ops) n ≡ cond (hangs (len ops.in_flight) ops u n) (cond flight.forgotten (done_at ops n) (Some quiet_outcome)) (done_at ops n)
+
+-- what hangs on u is joined to no handle then, and all else is joined as it was
+abbrev pub JoinsAfter : Type 0
+JoinsAfter = (u : ℕ) (ops : Ops) (n : ℕ) → joined_to (with_hanging_resolved u ops) n ≡ cond (hangs (len ops.in_flight) ops u n) [] (joined_to ops n)
 
 -- a chain of any length is found
 abbrev pub AnyDepth : Type 0

@@ -1,3 +1,5 @@
+pub mod JoinedHandles
+pub mod Joins
 pub mod Kept
 pub mod Laws
 pub mod Links

@@ -1,8 +1,12 @@
--- Lists by number. A number has an entry where its list isn't empty.
-use Rattle.std.specs.Prelude.{ℕ, List, [], ◌∷◌, Option, Some, None, unwrap_or}
+-- Lists of numbers, and lists by number: there a number has an entry where its list isn't empty.
+use Rattle.std.specs.Prelude.{ℕ, Bool, false, ◌||◌, ◌==◌, List, [], ◌∷◌, Option, Some, None, unwrap_or}
 use Rattle.std.specs.Ordering.{nat_cmp}
 use Rattle.std.specs.FinMap.{FinMap, get}
 use Rattle.rent_table.specs.NumberedSlab.{put}
+
+abbrev pub has : ℕ → List ℕ → Bool
+has n [] = false
+has n (m ∷ ms) = (n == m) || has n ms
 
 module _ {A : Type 0} where
   abbrev pub if_any : List A → Option (List A)

@@ -1,22 +1,29 @@
--- The operations of an engine: those in flight, and those that are resolved and unpolled.
+-- The operations of an engine: those in flight, those that are resolved and unpolled, and the handles to which those in flight
+-- are joined.
 use Rattle.std.specs.Prelude.{◌≡◌, ℕ, zero, suc, Bool, true, false, not, ◌||◌, ◌==◌, if◌then◌else◌, cond, pos, Option, Some, None, is_some, List, [], ◌∷◌}
 use Rattle.std.specs.Ordering.{nat_cmp}
 use Rattle.std.specs.FinMap.{FinMap, empty, get, insert, remove, len, entries}
 use Rattle.rent_table.specs.declared.ops.Flight.{Flight}
 use Rattle.rent_table.specs.declared.ops.OpDone.{OpDone}
+use Rattle.rent_table.specs.Lists.{list_at}
 
 pub record Ops : Type 0 where
   pub in_flight : FinMap nat_cmp Flight
   pub done : FinMap nat_cmp OpDone
+  pub joins : FinMap nat_cmp (List ℕ)
 
 abbrev pub no_ops : Ops
-no_ops = record { in_flight = empty; done = empty }
+no_ops = record { in_flight = empty; done = empty; joins = empty }
 
 abbrev pub flight_at : Ops → ℕ → Option Flight
 flight_at ops n = get ops.in_flight n
 
 abbrev pub done_at : Ops → ℕ → Option OpDone
 done_at ops n = get ops.done n
+
+-- the handles to which a number is joined, in the order of joining
+abbrev pub joined_to : Ops → ℕ → List ℕ
+joined_to ops n = list_at ops.joins n
 
 -- the number is in flight, or resolved and unpolled
 abbrev pub knows : Ops → ℕ → Bool
@@ -26,14 +33,19 @@ knows ops n = is_some (flight_at ops n) || is_some (done_at ops n)
 abbrev pub AreApart : Ops → Type 0
 AreApart ops = (n : ℕ) → is_some (flight_at ops n) ≡ true → done_at ops n ≡ None
 
+-- only what is in flight is joined to handles
+abbrev pub AreJoinsOfFlights : Ops → Type 0
+AreJoinsOfFlights ops = (n : ℕ) → flight_at ops n ≡ None → get ops.joins n ≡ None
+
 abbrev pub started : ℕ → Bool → Option ℕ → Ops → Ops
 started n lent next ops = record ops { in_flight = insert ops.in_flight n (record { lent = lent; forgotten = false; next = next }) }
 
--- an operation is resolved: one that was forgotten is gone, and another has its outcome
+-- an operation is resolved: one that was forgotten is gone, and another has its outcome; its joins end
 abbrev pub resolved_as : Flight → ℕ → OpDone → Ops → Ops
 resolved_as flight n outcome ops = record {
   in_flight = remove ops.in_flight n;
   done = if flight.forgotten then ops.done else insert ops.done n outcome;
+  joins = remove ops.joins n;
 }
 
 -- what is resolved is taken out

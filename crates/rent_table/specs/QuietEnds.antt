@@ -1,12 +1,9 @@
 -- How far the quiet ends of what hangs on a number have come.
-use Rattle.std.specs.Prelude.{◌≡◌, ℕ, ◌+◌, ◌||◌, ◌==◌, Bool, true, false, List, [], ◌∷◌, length, Some}
+use Rattle.std.specs.Prelude.{◌≡◌, ℕ, ◌+◌, ◌||◌, ◌==◌, Bool, true, List, length, Some}
 use Rattle.std.specs.Ordering.{nat_cmp}
 use Rattle.std.specs.FinMap.{FinMap, get, len}
+use Rattle.rent_table.specs.Lists.{has}
 use Rattle.rent_table.specs.Ops.{Ops, next_at, all_quietly_resolved, hangs}
-
-abbrev pub has : ℕ → List ℕ → Bool
-has n [] = false
-has n (m ∷ ms) = (n == m) || has n ms
 
 -- the number is u, or one of those that are gone
 abbrev pub is_resolved : ℕ → List ℕ → ℕ → Bool

@@ -1,6 +1,6 @@
 //! Laws of the definitions, each the contract of a function that does nothing.
 
-ghost use Rattle.rent_table.specs.Laws.{OnlyWhatHangs, AnyDepth, InOrder, FlightsAfter, OutcomesAfter, ResolvesAsked};
+ghost use Rattle.rent_table.specs.Laws.{OnlyWhatHangs, AnyDepth, InOrder, FlightsAfter, OutcomesAfter, JoinsAfter, ResolvesAsked};
 
 /// The end of a number resolves what hangs on it, quietly, and nothing else.
 pub fn quiet_ends()
@@ -9,5 +9,6 @@ pub fn quiet_ends()
     ensures in_order { InOrder }
     ensures flights { FlightsAfter }
     ensures outcomes { OutcomesAfter }
+    ensures joins { JoinsAfter }
     ensures asked { ResolvesAsked }
 {}

@@ -2,6 +2,7 @@
 //! one, and those that are resolved and unpolled.
 #![tactic(auto)]
 
+mod handles;
 pub mod laws;
 mod lifecycles;
 mod numbered_slab;
@@ -11,5 +12,6 @@ mod quiet_ends;
 mod step_queues;
 mod waiters;
 
+pub use handles::CancelHandle;
 pub use operations::Operations;
 pub use ops::{Flight, OpDone, Step};

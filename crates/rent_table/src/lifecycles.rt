@@ -1,10 +1,13 @@
 //! The lifecycles of operations: in flight, then resolved and unpolled.
 
-ghost use Rattle.std.specs.Prelude.{◌≡◌, ◌+◌, ◌^◌, ◌<◌, ◌≤◌, ℕ, true, false, None, Some, OnOk, IsOk, is_some};
-ghost use Rattle.std.specs.FinMap.{insert, len, remove};
+ghost use Rattle.std.specs.Prelude.{◌≡◌, ◌+◌, ◌^◌, ◌<◌, ◌≤◌, ℕ, true, false, [], None, Some, OnOk, OnErr, IfOk, IsOk, is_some};
+ghost use Rattle.std.specs.FinMap.{get, insert, len, remove};
+ghost use Rattle.rent_table.specs.Joins.{joined, is_joined, AreJoined};
+ghost use Rattle.rent_table.specs.Lists.{if_any, with_list};
 ghost use Rattle.rent_table.specs.Steps.{keeps_steps};
-ghost use Rattle.rent_table.specs.Ops.{no_ops, flight_at, done_at, knows, started, resolved_as, forgotten, AreApart};
+ghost use Rattle.rent_table.specs.Ops.{no_ops, flight_at, done_at, joined_to, knows, started, resolved_as, forgotten, AreApart, AreJoinsOfFlights};
 
+use crate::handles::Joins;
 use crate::numbered_slab::NumberedSlab;
 use crate::ops::{Flight, Lifecycle, OpDone};
 use std::alloc::{AllocError, Global};
@@ -45,6 +48,7 @@ impl Lifecycles {
     pub(crate) fn in_flight(&self) -> usize
         ensures count { result ≡ len self.now.ops.in_flight }
         ensures apart { AreApart self.now.ops }
+        ensures joins { AreJoinsOfFlights self.now.ops }
     {
         self.in_flight
     }
@@ -73,7 +77,7 @@ impl Lifecycles {
         ensures { result ≡ flight_at self.now.ops number }
     {
         match self.slab.get(number) {
-            Some(Lifecycle::InFlight(flight)) => Some(*flight),
+            Some(Lifecycle::InFlight(flight, _)) => Some(*flight),
             Some(Lifecycle::Done(_)) => None,
             None => None,
         }
@@ -108,14 +112,13 @@ impl Lifecycles {
         ensures spare { self.old.spare ≤ self.new.spare + 1 }
     {
         let forgotten = false;
-        self.slab.insert(
-            number,
-            Lifecycle::InFlight(Flight {
-                lent,
-                forgotten,
-                next,
-            }),
-        );
+        let flight = Flight {
+            lent,
+            forgotten,
+            next,
+        };
+        self.slab
+            .insert(number, Lifecycle::InFlight(flight, Joins::none()));
         self.in_flight += 1;
     }
 
@@ -134,7 +137,7 @@ impl Lifecycles {
 
     fn finish(&mut self, number: u64, outcome: OpDone)
         requires { is_some (flight_at self.old.ops number) ≡ true }
-        ensures ops { self.new.ops ≡ record { in_flight = remove self.old.ops.in_flight number; done = insert self.old.ops.done number outcome } }
+        ensures ops { self.new.ops ≡ record { in_flight = remove self.old.ops.in_flight number; done = insert self.old.ops.done number outcome; joins = remove self.old.ops.joins number } }
         ensures spare { self.old.spare ≤ self.new.spare }
     {
         self.in_flight -= 1;
@@ -143,7 +146,7 @@ impl Lifecycles {
 
     fn discard(&mut self, number: u64)
         requires { is_some (flight_at self.old.ops number) ≡ true }
-        ensures ops { self.new.ops ≡ record { in_flight = remove self.old.ops.in_flight number; done = self.old.ops.done } }
+        ensures ops { self.new.ops ≡ record { in_flight = remove self.old.ops.in_flight number; done = self.old.ops.done; joins = remove self.old.ops.joins number } }
         ensures spare { self.old.spare ≤ self.new.spare }
     {
         self.in_flight -= 1;
@@ -159,7 +162,7 @@ impl Lifecycles {
     {
         match self.slab.remove(number) {
             Some(Lifecycle::Done(done)) => Some(done),
-            Some(Lifecycle::InFlight(_)) => unreachable!(),
+            Some(Lifecycle::InFlight(_, _)) => unreachable!(),
             None => None,
         }
     }
@@ -182,10 +185,89 @@ impl Lifecycles {
         ensures ops { self.new.ops ≡ record self.old.ops { in_flight = insert self.old.ops.in_flight number (record flight { forgotten = true }) } }
         ensures spare { self.new.spare ≡ self.old.spare }
     {
+        let joins = self.take_joins(number, flight);
         let marked = Flight {
             forgotten: true,
             ..flight
         };
-        self.slab.replace(number, Lifecycle::InFlight(marked));
+        self.put_flight(number, marked, joins);
+    }
+
+    /// Takes out the handles to which a number in flight is joined.
+    fn take_joins(&mut self, number: u64, flight: Flight) -> Joins
+        requires { flight_at self.old.ops number ≡ Some flight }
+        ensures value { get self.old.ops.joins number ≡ if_any result }
+        ensures ops { self.new.ops ≡ record self.old.ops { joins = remove self.old.ops.joins number } }
+        ensures spare { self.new.spare ≡ self.old.spare }
+    {
+        let flying = Lifecycle::InFlight(flight, Joins::none());
+        match self.slab.exchange(number, flying) {
+            Some(Lifecycle::InFlight(_, joins)) => joins,
+            Some(Lifecycle::Done(_)) => unreachable!(),
+            None => unreachable!(),
+        }
+    }
+
+    /// Puts what is in flight under a number in place of what was, with the handles to which it is
+    /// joined.
+    fn put_flight(&mut self, number: u64, flight: Flight, joins: Joins)
+        requires { is_some (flight_at self.old.ops number) ≡ true }
+        ensures ops { self.new.ops ≡ record self.old.ops { in_flight = insert self.old.ops.in_flight number flight; joins = with_list number joins self.old.ops.joins } }
+        ensures spare { self.new.spare ≡ self.old.spare }
+    {
+        self.slab
+            .replace(number, Lifecycle::InFlight(flight, joins));
+    }
+
+    /// Joins a number to a handle, if it is in flight. The first join of a number takes no memory.
+    pub(crate) fn join(&mut self, alloc: Global, handle: u64, number: u64) -> Result<(), AllocError>
+        ensures ok { OnOk result (self.new.ops ≡ joined handle number self.old.ops) }
+        ensures err { OnErr result (self.new.ops ≡ self.old.ops) }
+        ensures first { joined_to self.old.ops number ≡ [] → IsOk result }
+        ensures spare { self.new.spare ≡ self.old.spare }
+    {
+        match self.flight(number) {
+            Some(flight) => self.join_flight(alloc, handle, number, flight),
+            None => Ok(()),
+        }
+    }
+
+    fn join_flight(
+        &mut self,
+        alloc: Global,
+        handle: u64,
+        number: u64,
+        flight: Flight,
+    ) -> Result<(), AllocError>
+        requires { flight_at self.old.ops number ≡ Some flight }
+        ensures ok { OnOk result (self.new.ops ≡ joined handle number self.old.ops) }
+        ensures err { OnErr result (self.new.ops ≡ self.old.ops) }
+        ensures first { joined_to self.old.ops number ≡ [] → IsOk result }
+        ensures spare { self.new.spare ≡ self.old.spare }
+    {
+        let mut joins = self.take_joins(number, flight);
+        let added = joins.add(alloc, handle);
+        self.put_flight(number, flight, joins);
+        added
+    }
+
+    /// Whether a number is joined to a handle.
+    fn is_joined(&self, handle: u64, number: u64) -> bool
+        ensures { result ≡ is_joined self.now.ops handle number }
+    {
+        match self.slab.get(number) {
+            Some(Lifecycle::InFlight(_, joins)) => joins.has(handle),
+            Some(Lifecycle::Done(_)) => false,
+            None => false,
+        }
+    }
+
+    /// The numbers that are joined to a handle. It goes over all that is in flight or resolved.
+    pub(crate) fn joined(&self, alloc: Global, handle: u64) -> Result<Vec<u64>, AllocError>
+        ensures { IfOk result (λ numbers. AreJoined self.now.ops handle numbers.items) }
+    {
+        let mut numbers = self.slab.numbers(alloc)?;
+        numbers.retain(|number| self.is_joined(handle, *number));
+        Ok(numbers)
     }
 }

@@ -1,7 +1,9 @@
 //! A table of values by number, each at a place that stays its own.
 
-ghost use Rattle.std.specs.Prelude.{◌≡◌, ◌+◌, ◌^◌, ◌<◌, ◌≤◌, true, None, OnOk, IsOk, is_some, option_copied, if◌then◌else◌};
+ghost use Rattle.std.specs.Prelude.{◌≡◌, ◌+◌, ◌^◌, ◌<◌, ◌≤◌, ℕ, true, None, OnOk, IfOk, IsOk, is_some, option_copied, if◌then◌else◌};
 ghost use Rattle.std.specs.FinMap.{empty, insert, len, remove};
+ghost use Rattle.std.specs.List.Sorted.{IsStrictlyIncreasing};
+ghost use Rattle.rent_table.specs.Lists.{has};
 ghost use Rattle.rent_table.specs.NumberedSlab.{at};
 
 use slab::Slab;
@@ -61,6 +63,16 @@ impl<T> NumberedSlab<T> {
         ensures { result ≡ is_some (at self.now number) }
     {
         self.get(number).is_some()
+    }
+
+    /// The numbers that have values, in rising order.
+    pub(crate) fn numbers(&self, alloc: Global) -> Result<Vec<u64>, AllocError>
+        ensures each { IfOk result (λ numbers. (n : ℕ) → has n numbers.items ≡ is_some (at self.now n)) }
+        ensures rising { IfOk result (λ numbers. IsStrictlyIncreasing numbers.items) }
+    {
+        let mut numbers: Vec<u64> = self.index.keys().copied().collect(alloc)?;
+        numbers.sort_unstable();
+        Ok(numbers)
     }
 
     /// Makes room for so many more numbers.

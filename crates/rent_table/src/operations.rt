@@ -1,11 +1,13 @@
 //! The operations of an engine.
 
-ghost use Rattle.std.specs.Prelude.{◌≡◌, ◌+◌, ◌<◌, ◌≤◌, ℕ, true, false, [], None, Some, OnOk, IsOk, drop, is_some, slice_get};
+ghost use Rattle.std.specs.Prelude.{◌≡◌, ◌+◌, ◌++◌, ◌∷◌, ◌<◌, ◌≤◌, ℕ, true, false, [], None, Some, OnOk, OnErr, IfOk, IsOk, length, drop, is_some, slice_get, slice_set, if◌then◌else◌};
 ghost use Rattle.std.specs.FinMap.{empty, len, remove};
+ghost use Rattle.rent_table.specs.Joins.{knows_handle, is_canceled, joined, AreJoined};
 ghost use Rattle.rent_table.specs.Lists.{list_at, with_list};
 ghost use Rattle.rent_table.specs.Steps.{step_kept};
-ghost use Rattle.rent_table.specs.Ops.{no_ops, flight_at, done_at, knows, next_at, started, resolved, taken_out, forgotten, AreApart};
+ghost use Rattle.rent_table.specs.Ops.{no_ops, flight_at, done_at, knows, next_at, started, resolved, taken_out, forgotten, joined_to, AreApart, AreJoinsOfFlights};
 
+use crate::handles::CancelHandle;
 use crate::lifecycles::Lifecycles;
 use crate::ops::{Flight, OpDone, Step};
 use crate::quiet_ends::end_hanging;
@@ -24,6 +26,9 @@ pub struct Operations {
     steps: StepQueues,
     /// Empty between calls, with room for all that is in flight.
     work: Vec<u64>,
+    /// Whether each handle is canceled, by its number.
+    canceled: Vec<bool>,
+    alloc: Global,
 }
 
 impl Model for Operations {
@@ -36,7 +41,7 @@ impl Model for Operations {
 
     ghost coded = { table_code };
 
-    ghost view = { λ o. record { ops = o.lifecycles.ops; steps = o.steps.steps; spare = min o.lifecycles.spare (min o.waiters.spare (vec_capacity o.work - len o.lifecycles.ops.in_flight)); step_room = o.steps.room } };
+    ghost view = { λ o. record { ops = o.lifecycles.ops; steps = o.steps.steps; handles = o.canceled.items; spare = min o.lifecycles.spare (min o.waiters.spare (vec_capacity o.work - len o.lifecycles.ops.in_flight)); step_room = o.steps.room } };
 
     ghost invariant = { λ o. IsSound o.lifecycles.ops o.waiters.next o.work.items (vec_capacity o.work) o.steps.steps };
 }
@@ -45,12 +50,15 @@ impl Operations {
     pub fn new(alloc: Global) -> Operations
         ensures ops { result.ops ≡ no_ops }
         ensures steps { result.steps ≡ empty }
+        ensures handles { result.handles ≡ [] }
     {
         Operations {
             lifecycles: Lifecycles::new(alloc),
             waiters: Waiters::new(alloc),
             steps: StepQueues::new(alloc),
             work: Vec::new(alloc),
+            canceled: Vec::new(alloc),
+            alloc,
         }
     }
 
@@ -72,6 +80,7 @@ impl Operations {
     pub fn in_flight(&self) -> usize
         ensures count { result ≡ len self.now.ops.in_flight }
         ensures apart { AreApart self.now.ops }
+        ensures joins { AreJoinsOfFlights self.now.ops }
     {
         self.lifecycles.in_flight()
     }
@@ -89,6 +98,7 @@ impl Operations {
     pub fn reserve(&mut self, more: usize) -> Result<(), AllocError>
         ensures ops { self.new.ops ≡ self.old.ops }
         ensures steps { self.new.steps ≡ self.old.steps }
+        ensures handles { self.new.handles ≡ self.old.handles }
         ensures room { OnOk result (more ≤ self.new.spare) }
         ensures succeeds { 0 < more → more ≤ self.old.spare → IsOk result }
         ensures spare { self.old.spare ≤ self.new.spare }
@@ -110,6 +120,7 @@ impl Operations {
         requires room { 0 < self.old.spare }
         ensures ops { self.new.ops ≡ started number lent None self.old.ops }
         ensures steps { self.new.steps ≡ self.old.steps }
+        ensures handles { self.new.handles ≡ self.old.handles }
         ensures no_steps { list_at self.new.steps number ≡ [] }
         ensures spare { self.old.spare ≤ self.new.spare + 1 }
         ensures step_room { self.old.step_room ≤ self.new.step_room }
@@ -126,6 +137,7 @@ impl Operations {
         requires room { 0 < self.old.spare }
         ensures ops { self.new.ops ≡ started number false (Some next) self.old.ops }
         ensures steps { self.new.steps ≡ self.old.steps }
+        ensures handles { self.new.handles ≡ self.old.handles }
         ensures no_steps { list_at self.new.steps number ≡ [] }
         ensures spare { self.old.spare ≤ self.new.spare + 1 }
         ensures step_room { self.old.step_room ≤ self.new.step_room }
@@ -141,6 +153,7 @@ impl Operations {
         requires { flight_at self.old.ops number ≡ Some flight }
         ensures ops { self.new.ops ≡ resolved flight number outcome self.old.ops }
         ensures steps { self.new.steps ≡ self.old.steps }
+        ensures handles { self.new.handles ≡ self.old.handles }
         ensures closed { (n m : ℕ) → next_at self.new.ops n ≡ Some m → is_some (flight_at self.old.ops m) ≡ true → is_some (flight_at self.new.ops m) ≡ true }
         ensures spare { self.old.spare ≤ self.new.spare }
         ensures step_room { self.old.step_room ≤ self.new.step_room }
@@ -163,6 +176,7 @@ impl Operations {
         ensures value { result ≡ done_at self.old.ops number }
         ensures ops { self.new.ops ≡ taken_out number self.old.ops }
         ensures steps { self.new.steps ≡ remove self.old.steps number }
+        ensures handles { self.new.handles ≡ self.old.handles }
         ensures spare { self.old.spare ≤ self.new.spare }
         ensures step_room { self.old.step_room ≤ self.new.step_room }
     {
@@ -176,6 +190,7 @@ impl Operations {
     pub fn forget(&mut self, number: u64)
         ensures ops { self.new.ops ≡ forgotten number self.old.ops }
         ensures steps { self.new.steps ≡ remove self.old.steps number }
+        ensures handles { self.new.handles ≡ self.old.handles }
         ensures spare { self.old.spare ≤ self.new.spare }
         ensures step_room { self.old.step_room ≤ self.new.step_room }
     {
@@ -187,6 +202,7 @@ impl Operations {
     pub fn reserve_step(&mut self) -> Result<(), AllocError>
         ensures ops { self.new.ops ≡ self.old.ops }
         ensures steps { self.new.steps ≡ self.old.steps }
+        ensures handles { self.new.handles ≡ self.old.handles }
         ensures room { OnOk result (0 < self.new.step_room) }
         ensures spare { self.new.spare ≡ self.old.spare }
         ensures step_room { self.old.step_room ≤ self.new.step_room }
@@ -199,6 +215,7 @@ impl Operations {
         requires { 0 < self.old.step_room }
         ensures ops { self.new.ops ≡ self.old.ops }
         ensures steps { self.new.steps ≡ step_kept step self.old.ops self.old.steps }
+        ensures handles { self.new.handles ≡ self.old.handles }
         ensures spare { self.new.spare ≡ self.old.spare }
     {
         if self.lifecycles.keeps_steps(step.number) {
@@ -211,9 +228,79 @@ impl Operations {
         ensures value { result ≡ slice_get (list_at self.old.steps number) 0 }
         ensures ops { self.new.ops ≡ self.old.ops }
         ensures steps { self.new.steps ≡ with_list number (drop 1 (list_at self.old.steps number)) self.old.steps }
+        ensures handles { self.new.handles ≡ self.old.handles }
         ensures spare { self.new.spare ≡ self.old.spare }
         ensures step_room { self.new.step_room ≡ self.old.step_room }
     {
         self.steps.next(number)
+    }
+
+    /// Makes a handle, which isn't canceled.
+    pub fn new_handle(&mut self) -> Result<CancelHandle, AllocError>
+        ensures value { IfOk result (λ handle. handle ≡ length self.old.handles) }
+        ensures handles { OnOk result (self.new.handles ≡ self.old.handles ++ false ∷ []) }
+        ensures err { OnErr result (self.new.handles ≡ self.old.handles) }
+        ensures ops { self.new.ops ≡ self.old.ops }
+        ensures steps { self.new.steps ≡ self.old.steps }
+        ensures spare { self.new.spare ≡ self.old.spare }
+        ensures step_room { self.new.step_room ≡ self.old.step_room }
+    {
+        let number = self.canceled.len() as u64;
+        self.canceled.push(false)?;
+        Ok(CancelHandle { number })
+    }
+
+    /// Whether this table made so many handles that it has the handle's number.
+    pub fn knows_handle(&self, handle: CancelHandle) -> bool
+        ensures { result ≡ knows_handle self.now.handles handle }
+    {
+        self.canceled.get(handle.number as usize).is_some()
+    }
+
+    /// Whether a handle is canceled. One that isn't known isn't canceled.
+    pub fn is_canceled(&self, handle: CancelHandle) -> bool
+        ensures { result ≡ is_canceled self.now.handles handle }
+    {
+        match self.canceled.get(handle.number as usize) {
+            Some(canceled) => *canceled,
+            None => false,
+        }
+    }
+
+    /// Marks a handle as canceled, which it stays. One that isn't known changes nothing.
+    pub fn mark_canceled(&mut self, handle: CancelHandle)
+        ensures handles { self.new.handles ≡ slice_set self.old.handles handle true }
+        ensures ops { self.new.ops ≡ self.old.ops }
+        ensures steps { self.new.steps ≡ self.old.steps }
+        ensures spare { self.new.spare ≡ self.old.spare }
+        ensures step_room { self.new.step_room ≡ self.old.step_room }
+    {
+        if let Some(canceled) = self.canceled.get_mut(handle.number as usize) {
+            *canceled = true;
+        }
+    }
+
+    /// Joins an operation in flight to a handle that is known, until it is resolved. An operation
+    /// may be joined to any number of handles; its first join takes no memory.
+    pub fn join(&mut self, handle: CancelHandle, number: u64) -> Result<(), AllocError>
+        ensures ops { OnOk result (self.new.ops ≡ (if knows_handle self.old.handles handle then joined handle number self.old.ops else self.old.ops)) }
+        ensures err { OnErr result (self.new.ops ≡ self.old.ops) }
+        ensures first { joined_to self.old.ops number ≡ [] → IsOk result }
+        ensures steps { self.new.steps ≡ self.old.steps }
+        ensures handles { self.new.handles ≡ self.old.handles }
+        ensures spare { self.new.spare ≡ self.old.spare }
+        ensures step_room { self.new.step_room ≡ self.old.step_room }
+    {
+        if !self.knows_handle(handle) {
+            return Ok(());
+        }
+        self.lifecycles.join(self.alloc, handle.number, number)
+    }
+
+    /// The numbers that are joined to a handle. It goes over all that is in flight or resolved.
+    pub fn joined(&self, handle: CancelHandle) -> Result<Vec<u64>, AllocError>
+        ensures { IfOk result (λ numbers. AreJoined self.now.ops handle numbers.items) }
+    {
+        self.lifecycles.joined(self.alloc, handle.number)
     }
 }

@@ -1,5 +1,6 @@
 //! Operations, and what comes of them.
 
+use crate::handles::Joins;
 use uring_base::Buf;
 
 /// An operation that was started and isn't resolved.
@@ -17,7 +18,7 @@ pub struct Flight {
 /// What a table has under a number.
 #[derive(Drop)]
 pub(crate) enum Lifecycle {
-    InFlight(Flight),
+    InFlight(Flight, Joins),
     Done(OpDone),
 }
 

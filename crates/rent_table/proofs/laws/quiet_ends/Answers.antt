@@ -1,4 +1,4 @@
-use Rattle.rent_table.proofs.Endings.{only_what_hangs, resolved_flights, resolved_outcomes}
+use Rattle.rent_table.proofs.Endings.{only_what_hangs, resolved_flights, resolved_outcomes, resolved_joins}
 use Rattle.rent_table.proofs.Depth.{any_depth}
 use Rattle.rent_table.proofs.Orders.{in_order}
 use Rattle.rent_table.proofs.Asked.{resolves_asked}
@@ -12,6 +12,9 @@ returns-clause-flights c = resolved_flights
 
 pub returns-clause-outcomes : goal.returns-clause-outcomes
 returns-clause-outcomes c = resolved_outcomes
+
+pub returns-clause-joins : goal.returns-clause-joins
+returns-clause-joins c = resolved_joins
 
 pub returns-clause-any_depth : goal.returns-clause-any_depth
 returns-clause-any_depth c = any_depth

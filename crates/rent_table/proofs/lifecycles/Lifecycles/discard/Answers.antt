@@ -21,4 +21,4 @@ invariant_of-self c =
 pub returns-clause-ops : goal.returns-clause-ops
 returns-clause-ops c =
     let here = ap (λ k. is_some (flight_at k.ops c.args.number)) c.self.view_is ∙ c.requires in
-    ap ops_of c.remove.ensures.entries ∙ ops-discarded c.self.inside.slab.entries c.args.number here ∙ ap (λ k. record k.ops { in_flight = remove k.ops.in_flight c.args.number }) c.self.view_is
+    ap ops_of c.remove.ensures.entries ∙ ops-discarded c.self.inside.slab.entries c.args.number here ∙ ap (λ k. record k.ops { in_flight = remove k.ops.in_flight c.args.number; joins = remove k.ops.joins c.args.number }) c.self.view_is

@@ -24,4 +24,4 @@ invariant_of-self c =
 pub returns-clause-ops : goal.returns-clause-ops
 returns-clause-ops c =
     let here = ap (λ k. is_some (flight_at k.ops c.args.number)) c.self.view_is ∙ c.requires in
-    ap ops_of c.replace.ensures.entries ∙ ops-finished c.self.inside.slab.entries c.args.number here c.args.outcome ∙ ap (λ k. record { in_flight = remove k.ops.in_flight c.args.number; done = insert k.ops.done c.args.number c.args.outcome }) c.self.view_is
+    ap ops_of c.replace.ensures.entries ∙ ops-finished c.self.inside.slab.entries c.args.number here c.args.outcome ∙ ap (λ k. record { in_flight = remove k.ops.in_flight c.args.number; done = insert k.ops.done c.args.number c.args.outcome; joins = remove k.ops.joins c.args.number }) c.self.view_is

@@ -9,7 +9,7 @@ use Rattle.rent_table.proofs.lifecycles.Lifecycles.take.Goals as goal
 
 pub unreachable-requires : goal.unreachable-requires
 unreachable-requires c =
-    let there = in_flight_there c.self.inside.slab.entries c.args.number _ (sym c.in-Some-InFlight.ensures.value ∙ ap Some c.in-Some-InFlight.field-0-is) in
+    let there = in_flight_there c.self.inside.slab.entries c.args.number _ _ (sym c.in-Some-InFlight.ensures.value ∙ ap Some c.in-Some-InFlight.field-0-is) in
     subst T (ap is_some (there ∙ ap (λ k. flight_at k.ops c.args.number) c.self.view_is ∙ c.requires)) tt
 
 pub invariant_of-self : goal.invariant_of-self
