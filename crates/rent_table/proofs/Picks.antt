@@ -70,7 +70,7 @@ pub nothing_out : {V : Type 0} (m : FinMap nat_cmp V) (n : ℕ) → get m n ≡ 
 nothing_out m n none = one_put m m n None (λ q. kept_out (n == q) (get m q) (λ e. same_number m n q e ∙ none))
 
 -- how many
-none_there : {V : Type 0} (m : FinMap nat_cmp V) (n : ℕ) → len m ≡ 0 → is_some (get m n) ≡ false
+pub none_there : {V : Type 0} (m : FinMap nat_cmp V) (n : ℕ) → len m ≡ 0 → is_some (get m n) ≡ false
 none_there m n e = ap (λ x. is_some (get x n)) (empty_of_len m e) ∙ ap is_some (get-empty nat_cmp n)
 
 at_least : (k : ℕ) (b : Bool) → b ≡ true → (k ≡ 0 → b ≡ false) → 1 ≤ k

@@ -4,6 +4,7 @@
 
 pub mod laws;
 mod lifecycles;
+mod numbered_places;
 mod numbered_slab;
 mod operations;
 mod ops;

@@ -5,7 +5,7 @@ ghost use Rattle.std.specs.FinMap.{insert, len, remove};
 ghost use Rattle.rent_table.specs.Steps.{keeps_steps};
 ghost use Rattle.rent_table.specs.Ops.{no_ops, flight_at, done_at, knows, started, resolved_as, forgotten, AreApart};
 
-use crate::numbered_slab::NumberedSlab;
+use crate::numbered_places::NumberedPlaces;
 use crate::ops::{Flight, Lifecycle, OpDone};
 use std::alloc::{AllocError, Global};
 use std::marker::Model;
@@ -14,7 +14,7 @@ use std::marker::Model;
 /// is taken.
 #[derive(Drop)]
 pub(crate) struct Lifecycles {
-    slab: NumberedSlab<Lifecycle>,
+    slab: NumberedPlaces<Lifecycle>,
     in_flight: usize,
 }
 
@@ -37,7 +37,7 @@ impl Lifecycles {
         ensures { result.ops ≡ no_ops }
     {
         Lifecycles {
-            slab: NumberedSlab::new(alloc),
+            slab: NumberedPlaces::new(alloc),
             in_flight: 0,
         }
     }
@@ -60,13 +60,7 @@ impl Lifecycles {
         ensures free { knows self.now.ops result ≡ false }
         ensures least { (n : ℕ) → n < result → knows self.now.ops n ≡ true }
     {
-        let known = self.slab.len() as u64;
-        for number in 0..known {
-            if !self.knows(number) {
-                return number;
-            }
-        }
-        known
+        self.slab.least_absent()
     }
 
     pub(crate) fn flight(&self, number: u64) -> Option<Flight>
