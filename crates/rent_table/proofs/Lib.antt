@@ -2,6 +2,7 @@ pub mod Picks
 pub mod Indexed
 pub mod Linked
 pub mod Waits
+pub mod Marked
 pub mod Parts
 pub mod Joining
 pub mod Endings

@@ -2,9 +2,8 @@
 use Rattle.std.proofs.Common.{◌≡◌, ℕ, zero, suc, ◌+◌, ◌<◌, ◌≤◌, ◌||◌, Bool, true, false, cond, List, [], Option, Some, None, is_some, refl, sym, ap, ◌∙◌, subst, T, arith, nat_eq, eqb-true, ne_eqb}
 use Rattle.std.proofs.lemmas.Bool.{eqb-false}
 use Rattle.std.specs.Option.{option_and_then}
-use Rattle.std.specs.Ordering.{nat_cmp, eq_by_cmp}
-use Rattle.std.specs.Cmp.{nat_cmp_total, unsigned_tied}
-use Rattle.std.specs.FinMap.{FinMap, get, insert, remove, len, empty, get-remove}
+use Rattle.std.specs.Ordering.{nat_cmp}
+use Rattle.std.specs.FinMap.{FinMap, get, insert, remove, len, empty}
 use Rattle.rent_table.specs.declared.ops.Flight.{Flight}
 use Rattle.rent_table.specs.declared.ops.OpDone.{OpDone}
 use Rattle.rent_table.specs.declared.ops.Lifecycle.{Lifecycle}
@@ -140,36 +139,6 @@ module _ (m : Table) (n : ℕ) (landed : flight_at (ops_of m) n ≡ None) where
 
   pub len-left : len (ops_of (remove m n)).in_flight ≡ len (ops_of m).in_flight
   len-left = ap len (part-remove flight_of m n ∙ sym (nothing_out (ops_of m).in_flight n landed))
-
--- numbers below k that are all known are at most as many as the table has
-apart_keys : (n k : ℕ) → n < k → eq_by_cmp nat_cmp n k ≡ false
-apart_keys n k lt = unsigned_tied n k ∙ ne_eqb n k (λ e. omega (arith, e, lt))
-
-still_there : (m : Table) (k n : ℕ) → n < k → get (remove m k) n ≡ get m n
-still_there m k n lt = get-remove nat_cmp_total m k n ∙ ap (λ b. cond b None (get m n)) (apart_keys n k lt)
-
-pigeon : (k : ℕ) (m : Table) → ((n : ℕ) → n < k → is_some (get m n) ≡ true) → k ≤ len m
-pigeon zero m h = omega arith
-pigeon (suc k) m h =
-    let p = pigeon k (remove m k) (λ n lt. ap is_some (still_there m k n lt) ∙ h n (omega (arith, lt))) in
-    let q = len-taken m k (h k (omega arith)) in omega (arith, p, q)
-
-to_false : (b : Bool) → (b ≡ true → ⊥) → b ≡ false
-to_false true no_way = absurd (no_way refl)
-to_false false no_way = refl
-
-at_end : (k n : ℕ) → n < suc k → (n ≡ k → ⊥) → n < k
-at_end k n lt ne = grind (arith, lt, ne)
-
-all_below : (k : ℕ) (m : Table) → ((n : ℕ) → n < k → is_some (get m n) ≡ true) → is_some (get m k) ≡ true → (n : ℕ) → n < suc k → is_some (get m n) ≡ true
-all_below k m h there n lt = elim (nat_eq n k) as (λ b. nat_eq n k ≡ b → is_some (get m n) ≡ true) [
-  | true ↦ λ e. ap (λ q. is_some (get m q)) (eqb-true n k e) ∙ there
-  | false ↦ λ e. h n (at_end k n lt (eqb-false n k e))
-] refl
-
--- where all numbers below the table's count are known, the count itself isn't
-pub next_is_free : (k : ℕ) (m : Table) → k ≡ len m → ((n : ℕ) → n < k → knows (ops_of m) n ≡ true) → knows (ops_of m) k ≡ false
-next_is_free k m is h = sym (knows-at m k) ∙ to_false _ (λ there. let p = pigeon (suc k) m (all_below k m (λ n lt. knows-at m n ∙ h n lt) there) in let q : ⊥ = omega (arith, p, is) in q)
 
 -- What a place is known to hold, by what the table has there.
 pub in_flight_there : (m : Table) (n : ℕ) (flight : Flight) (joins : List ℕ) → get m n ≡ Some (InFlight flight joins) → Some flight ≡ flight_at (ops_of m) n

@@ -78,7 +78,7 @@ pub put_same : {V : Type 0} (m : FinMap nat_cmp V) (n : ℕ) (o : Option V) → 
 put_same m n o at = sym (one_put m m n o (λ q. stays (n == q) (get m q) o (λ e. same_number m n q e ∙ at)))
 
 -- how many
-none_there : {V : Type 0} (m : FinMap nat_cmp V) (n : ℕ) → len m ≡ 0 → is_some (get m n) ≡ false
+pub none_there : {V : Type 0} (m : FinMap nat_cmp V) (n : ℕ) → len m ≡ 0 → is_some (get m n) ≡ false
 none_there m n e = ap (λ x. is_some (get x n)) (empty_of_len m e) ∙ ap is_some (get-empty nat_cmp n)
 
 at_least : (k : ℕ) (b : Bool) → b ≡ true → (k ≡ 0 → b ≡ false) → 1 ≤ k

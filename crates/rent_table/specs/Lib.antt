@@ -4,6 +4,7 @@ pub mod Kept
 pub mod Laws
 pub mod Links
 pub mod Lists
+pub mod NumberedPlaces
 pub mod NumberedSlab
 pub mod Ops
 pub mod QuietEnds

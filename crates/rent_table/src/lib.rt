@@ -5,6 +5,7 @@
 mod handles;
 pub mod laws;
 mod lifecycles;
+mod numbered_places;
 mod numbered_slab;
 mod operations;
 mod ops;

@@ -8,7 +8,7 @@ ghost use Rattle.rent_table.specs.Steps.{keeps_steps};
 ghost use Rattle.rent_table.specs.Ops.{no_ops, flight_at, done_at, joined_to, knows, started, resolved_as, forgotten, AreApart, AreJoinsOfFlights};
 
 use crate::handles::Joins;
-use crate::numbered_slab::NumberedSlab;
+use crate::numbered_places::NumberedPlaces;
 use crate::ops::{Flight, Lifecycle, OpDone};
 use std::alloc::{AllocError, Global};
 use std::marker::Model;
@@ -17,7 +17,7 @@ use std::marker::Model;
 /// is taken.
 #[derive(Drop)]
 pub(crate) struct Lifecycles {
-    slab: NumberedSlab<Lifecycle>,
+    slab: NumberedPlaces<Lifecycle>,
     in_flight: usize,
 }
 
@@ -40,7 +40,7 @@ impl Lifecycles {
         ensures { result.ops ≡ no_ops }
     {
         Lifecycles {
-            slab: NumberedSlab::new(alloc),
+            slab: NumberedPlaces::new(alloc),
             in_flight: 0,
         }
     }
@@ -64,13 +64,7 @@ impl Lifecycles {
         ensures free { knows self.now.ops result ≡ false }
         ensures least { (n : ℕ) → n < result → knows self.now.ops n ≡ true }
     {
-        let known = self.slab.len() as u64;
-        for number in 0..known {
-            if !self.knows(number) {
-                return number;
-            }
-        }
-        known
+        self.slab.least_absent()
     }
 
     pub(crate) fn flight(&self, number: u64) -> Option<Flight>
