@@ -1,11 +1,11 @@
 -- What the rounds of an executor keep.
-use Rattle.std.proofs.Common.{◌≡◌, ◌≢◌, ℕ, zero, suc, ◌+◌, ◌≤◌, ◌<◌, ◌==◌, Bool, true, false, cond, not, ◌&&◌, ◌||◌, ◌⊎◌, inl, inr, List, [], ◌∷◌, ◌++◌, length, Option, Some, None, is_some, refl, ap, sym, ◌∙◌, subst, T, arith, eqb-true, eq-eqb, ne_eqb, append_assoc, append-nil, add-one}
-use Rattle.std.specs.Prelude.{is_none, nat_le}
+use Rattle.std.proofs.Common.{◌≡◌, ◌≢◌, ℕ, suc, ◌+◌, ◌≤◌, ◌<◌, ◌==◌, Bool, true, false, cond, not, ◌&&◌, ◌||◌, ◌⊎◌, inl, inr, List, [], ◌∷◌, ◌++◌, length, Option, Some, None, refl, ap, sym, ◌∙◌, subst, T, arith, eqb-true, eq-eqb, ne_eqb, append_assoc, append-nil, add-one}
+use Rattle.std.specs.Prelude.{is_none}
 use Rattle.std.specs.List.{list_all, list_any}
 use Rattle.std.specs.Map.{lookup}
 use Rattle.std.specs.Ordering.{nat_cmp, eq_by_cmp}
 use Rattle.std.specs.Cmp.{nat_cmp_total, unsigned_tied, eq_by_cmp_equiv}
-use Rattle.std.specs.FinMap.{FinMap, find, get, insert, remove, empty, from_entries, get-insert, get-remove, get-empty, get-from_entries, same_map, nat_cmp-IsAntisymmetric}
+use Rattle.std.specs.FinMap.{FinMap, find, get, insert, remove, from_entries, get-insert, get-remove, get-empty, get-from_entries, same_map, nat_cmp-IsAntisymmetric}
 use Rattle.std.proofs.lemmas.Bool.{leb-true, le-leb}
 use Rattle.std.proofs.lemmas.List.Folds.{list_all-append}
 use Rattle.uring_base.specs.declared.events.Taken.{Taken}
@@ -13,7 +13,7 @@ use Rattle.rent_engine.specs.declared.state.Poll.{Poll}
 use Rattle.rent_engine.specs.declared.state.Poll.TheVariants.{Ready, Pending}
 use Rattle.rent_engine.specs.Ops.{Ops}
 use Rattle.rent_engine.specs.States.{is_pending, waits_on, KeepsInFlight}
-use Rattle.rent_engine.specs.Executor.{Tasks, Scene, are_in_order, if_waiting, with_output, settled, task_waits, IsSound, IsPoll, PollsFirst, AllPolled, IsRound}
+use Rattle.rent_engine.specs.Executor.{Tasks, Scene, are_in_order, if_waiting, settled, task_waits, IsSound, PollsFirst, AllPolled, IsRound}
 
 -- Outputs by the entries of a hash map.
 

@@ -5,7 +5,6 @@ use Rattle.rent_engine.specs.declared.fault.EngineFault.{EngineFault}
 use Rattle.rent_engine.specs.declared.fault.EngineFault.TheVariants as engine
 use Rattle.rent_engine.specs.declared.ops.TurnReport.{TurnReport}
 use Rattle.rent_engine.specs.declared.executor.ExecFault.{ExecFault}
-use Rattle.rent_engine.specs.declared.executor.ExecFault.TheVariants.{Engine, NoMemory}
 use Rattle.rent_engine.specs.Ops.{Ops}
 use Rattle.rent_engine.specs.Executor.{Scene, RunState, RoundAndTurn, Cycles, RunEnds, exec_fault_of}
 

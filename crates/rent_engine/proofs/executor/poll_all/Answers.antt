@@ -1,7 +1,7 @@
 use Rattle.std.proofs.Common.{◌≡◌, ◌-◌, ◌+◌, suc, length, arith, subst, rules, refl, ◌∙◌}
 use Rattle.std.specs.FinMap.{from_entries}
 use Rattle.rent_engine.specs.Engines.{Offered}
-use Rattle.rent_engine.proofs.Executors.{IsGoing, going_begins, going_on, first_undone, some_left, going_ends}
+use Rattle.rent_engine.proofs.Executors.{IsGoing, going_begins, going_on, first_undone}
 use Rattle.rent_engine.proofs.executor.poll_all.Goals as goal
 
 pub loop-init : goal.loop-init

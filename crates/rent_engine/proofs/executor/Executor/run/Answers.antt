@@ -1,4 +1,4 @@
-use Rattle.std.proofs.Common.{◌≡◌, ◌≤◌, ◌<◌, length, Ok, Err, refl, sym, ap, ◌∙◌, subst, arith}
+use Rattle.std.proofs.Common.{◌≡◌, Ok, Err, refl, ◌∙◌, subst, arith}
 use Rattle.ring_setup.specs.declared.parameters.Parameters.{Parameters}
 use Rattle.rent_engine.specs.Engines.{Offered}
 use Rattle.rent_engine.specs.Executor.{IsRound, Cycles}

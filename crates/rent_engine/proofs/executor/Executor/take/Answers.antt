@@ -1,5 +1,5 @@
-use Rattle.std.proofs.Common.{◌≡◌, ◌≤◌, ◌==◌, Option, None, Bool, true, refl, sym, ap, ◌∙◌, subst}
-use Rattle.std.specs.FinMap.{FinMap, get, from_entries, remove}
+use Rattle.std.proofs.Common.{◌≤◌, ◌==◌, sym, ap, ◌∙◌, subst}
+use Rattle.std.specs.FinMap.{get}
 use Rattle.std.specs.List.{list_any}
 use Rattle.rent_engine.specs.Executor.{output_taken}
 use Rattle.rent_engine.proofs.Executors.{output-at, outputs-removed, sound_taken, unfinished_has_none}
