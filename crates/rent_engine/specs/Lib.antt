@@ -1,4 +1,5 @@
 pub mod Engines
+pub mod Executor
 pub mod Faults
 pub mod Kept
 pub mod Laws

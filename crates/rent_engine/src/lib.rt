@@ -3,6 +3,7 @@
 
 mod completions;
 mod engine;
+mod executor;
 mod fault;
 pub mod laws;
 mod numbered_slab;
@@ -15,6 +16,7 @@ mod state;
 mod turn;
 
 pub use engine::Engine;
+pub use executor::{ExecFault, Executor};
 pub use fault::{EngineFault, StartFault};
 pub use one_op::{OneAnswer, OneOp, Request, Stage};
 pub use op_kind::{Op, OpKind};
