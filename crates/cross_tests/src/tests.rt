@@ -1,6 +1,9 @@
 mod engines;
 mod files;
+mod handles;
+mod kept_steps;
 mod partners;
+mod quiet_ends;
 mod runs;
 mod scripts;
 mod submits;

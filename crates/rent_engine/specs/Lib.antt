@@ -1,8 +1,7 @@
 pub mod Engines
 pub mod Faults
-pub mod Kept
+pub mod Handles
 pub mod Laws
-pub mod NumberedSlab
 pub mod OneOp
 pub mod Ops
 pub mod States
