@@ -13,7 +13,7 @@ use Rattle.rent_table.specs.declared.ops.OpDone.{OpDone}
 use Rattle.rent_engine.specs.declared.ops.OpPoll.{OpPoll}
 use Rattle.rent_engine.specs.declared.ops.OpPoll.TheVariants.{Ready, Pending}
 use Rattle.rent_engine.specs.Ops as engine
-use Rattle.rent_table.specs.Ops.{Ops, flight_at, done_at, knows, started, taken_out}
+use Rattle.rent_table.specs.Ops.{Ops, flight_at, done_at, knows, taken_out}
 use Rattle.rent_engine.specs.Ops.{has_strange_loan, is_strange_for, completed, outcome, polled, polled_done}
 use Rattle.run_loop.specs.declared.slot.Reply.{Reply}
 use Rattle.run_loop.specs.declared.slot.Slot.{Slot}

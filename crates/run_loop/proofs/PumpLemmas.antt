@@ -71,7 +71,7 @@ module _ (ops : Ops) (begun : ℕ) (slots : List Slot) (jobs : List ℕ) (a : Ar
   -- one that isn't the last changes nothing
   module _ (more : is_more c.flags ≡ true) where
     unchanged : completed ops c ≡ ops
-    unchanged = λ i. cond (due i || more i) ops (resolved (flight_at ops c.user_data) c ops)
+    unchanged = λ i. cond (due i || more i) ops (completed_by (flight_at ops c.user_data) c ops)
 
     not_landed : land_one (all_polled ops slots) c ≡ all_polled ops slots
     not_landed = λ i. cond (not (more i)) (land_in (slice_get (all_polled ops slots) c.user_data) (all_polled ops slots) c.user_data (record { result = c.result; loan = c.loan })) (all_polled ops slots)
