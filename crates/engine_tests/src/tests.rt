@@ -1,4 +1,7 @@
 mod engines;
 mod files;
+mod handles;
+mod kept_steps;
 mod numbers;
 mod operations;
+mod quiet_ends;

@@ -1,8 +1,6 @@
-pub mod Picks
-pub mod Indexed
-pub mod Parts
 pub mod Pumping
 pub mod Executors
 pub mod Runs
 pub mod OneOps
 pub mod Staying
+pub mod Canceling

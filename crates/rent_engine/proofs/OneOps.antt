@@ -12,7 +12,7 @@ use Rattle.rent_engine.specs.declared.one_op.Request.{Request}
 use Rattle.rent_engine.specs.declared.one_op.Stage.{Stage}
 use Rattle.rent_engine.specs.declared.one_op.Stage.TheVariants.{Offers, Over}
 use Rattle.rent_engine.specs.declared.one_op.OneAnswer.TheVariants.{InUse, NoMemory}
-use Rattle.rent_engine.specs.Ops.{Ops, flight_at, knows, started}
+use Rattle.rent_table.specs.Ops.{Ops, flight_at, knows, started}
 use Rattle.rent_engine.specs.Engines.{Offered, all_offered}
 use Rattle.rent_engine.specs.OneOp.{OneStep, IsItsNumber}
 use Rattle.rent_engine.specs.States.{KeepsInFlight}
@@ -40,10 +40,10 @@ module _ (request : Request) (n : ℕ) (ops after : Ops) (buf : Option Buf) (its
   pub lacking : (stage : Stage) → false ≡ knows ops n → stage ≡ Over → OneStep (Offers request) ops [] (Ready (NoMemory buf)) after stage
   lacking stage unknown over = (n, its, inr (inr (inr (record { unknown = sym unknown; entries = refl; operations = same; gives = ap (λ b. Ready (NoMemory b)) back; next = over }))))
 
-pub started-kept : (n : ℕ) (lent : Bool) (ops after : Ops) → after ≡ started n lent ops → KeepsInFlight ops after
+pub started-kept : (n : ℕ) (lent : Bool) (ops after : Ops) → after ≡ started n lent None ops → KeepsInFlight ops after
 started-kept n lent ops after is = λ q there. ap (λ o. is_some (flight_at o q)) is ∙ ap is_some (get-insert nat_cmp_total ops.in_flight n _ q)
-    ∙ elim (eq_by_cmp nat_cmp q n) as (λ b. is_some (cond b (Some (record { lent = lent; forgotten = false })) (flight_at ops q)) ≡ true) [ true ↦ refl | false ↦ there ]
+    ∙ elim (eq_by_cmp nat_cmp q n) as (λ b. is_some (cond b (Some (record { lent = lent; forgotten = false; next = None })) (flight_at ops q)) ≡ true) [ true ↦ refl | false ↦ there ]
 
-pub started-there : (n : ℕ) (lent : Bool) (ops after : Ops) → after ≡ started n lent ops → true ≡ is_some (flight_at after n)
+pub started-there : (n : ℕ) (lent : Bool) (ops after : Ops) → after ≡ started n lent None ops → true ≡ is_some (flight_at after n)
 started-there n lent ops after is = sym (ap (λ o. is_some (flight_at o n)) is ∙ ap is_some (get-insert nat_cmp_total ops.in_flight n _ n)
-    ∙ ap (λ b. is_some (cond b (Some (record { lent = lent; forgotten = false })) (flight_at ops n))) (unsigned_tied n n ∙ eq-eqb n n refl))
+    ∙ ap (λ b. is_some (cond b (Some (record { lent = lent; forgotten = false; next = None })) (flight_at ops n))) (unsigned_tied n n ∙ eq-eqb n n refl))

@@ -5,10 +5,11 @@ use Rattle.uring_base.specs.declared.events.Taken.{Taken}
 use Rattle.uring_base.specs.declared.events.Completion.{Completion}
 use Rattle.uring_base.specs.Completions.{is_more, is_final}
 use Rattle.ring_traits.specs.Lists.{Lists, Becomes, WhereTold, Reaps, all_published, free_of}
-use Rattle.rent_engine.specs.declared.ops.Step.{Step}
+use Rattle.rent_table.specs.Ops.{Ops, flight_at}
+use Rattle.rent_table.specs.Steps.{KeptSteps}
 use Rattle.rent_engine.specs.declared.fault.EngineFault.{EngineFault}
-use Rattle.rent_engine.specs.declared.fault.EngineFault.TheVariants.{Stranger, Fault}
-use Rattle.rent_engine.specs.Ops.{Ops, step_of, is_stranger, completed, resolved, flight_at, Pumps}
+use Rattle.rent_engine.specs.declared.fault.EngineFault.TheVariants.{Stranger, Fault, NoMemory}
+use Rattle.rent_engine.specs.Ops.{is_stranger, completed, completed_by, kept_of, steps_after, Pumps}
 use Rattle.rent_engine.specs.Engines.{Reaped, Pumped, finals_in}
 
 -- the lists
@@ -64,35 +65,48 @@ Pumps-taken now c after e ok = inr (untrue _ ok, e)
 pub Pumps-strange : (now : Ops) (c : Completion) (after : Ops) (fault : EngineFault) → after ≡ completed now c → false ≡ not (is_stranger now c) → fault ≡ Stranger c.user_data → Pumps now (c ∷ []) after (Err fault)
 Pumps-strange now c after fault e ok named =
     let strange = is_true _ ok in
-    inl (strange, refl, e ∙ ap (λ b. cond (b || is_more c.flags) now (resolved (flight_at now c.user_data) c now)) strange, ap Err named)
+    inl (strange, refl, e ∙ ap (λ b. cond (b || is_more c.flags) now (completed_by (flight_at now c.user_data) c now)) strange, ap Err named)
+
+-- memory lacks for the next step
+pub Pumps-lacking : (a : Ops) (cs : List Completion) (b : Ops) → Pumps a cs b (Ok tt) → Pumps a cs b (Err NoMemory)
+Pumps-lacking a [] b p = p
+Pumps-lacking a (d ∷ cs) b (inl p) = let e : ⊥ = cc (p.3) in absurd e
+Pumps-lacking a (d ∷ cs) b (inr p) = inr (p.0, Pumps-lacking (completed a d) cs b p.1)
+
+-- the kept steps
+kept_more : (a : Ops) (cs : List Completion) (b : Ops) (c : Completion) (steps : KeptSteps) → Pumps a cs b (Ok tt) → kept_of b c (steps_after a cs steps) ≡ steps_after a (cs ++ c ∷ []) steps
+kept_more a [] b c steps p = ap (λ o. kept_of o c steps) p
+kept_more a (d ∷ cs) b c steps (inl p) = let e : ⊥ = cc (p.3) in absurd e
+kept_more a (d ∷ cs) b c steps (inr p) = kept_more (completed a d) cs b c (kept_of a d steps) p.1
 
 -- one more
 module _ {R : Type 0} (used : R → List Taken → List Completion → R → Type 0) (lists : R → Option Lists) (room waiting : R → ℕ) (used_then : (a b c : R) (ts us : List Taken) (cs ds : List Completion) → used a ts cs b → used b us ds c → used a (ts ++ us) (cs ++ ds) c) where
   at_most : (r : ℕ) (s t : ℕ) → t ≡ s → r ≤ s → r ≤ t
   at_most r s t e le = omega (arith, e, le)
 
-  pub Pumped-more : (before b here after left : R) (ops mid now ops' : Ops) (end : Result (Unit {0}) EngineFault) (c : Completion) (p : Pumped used lists room waiting before b ops mid (Ok tt))
-      → here ≡ b → now ≡ mid → left ≡ after → used here [] (c ∷ []) after → WhereTold (Reaps c) (lists here) (lists after) → room after ≡ room here → waiting here ≡ waiting after + 1
-      → Pumps now (c ∷ []) ops' end → (q : Pumped used lists room waiting before left ops ops' end) × (q.completions ≡ p.completions ++ c ∷ [])
-  Pumped-more before b here after left ops mid now ops' end c p at same last uses told rooms less steps =
+  pub Pumped-more : (before b here after left : R) (ops mid now ops' : Ops) (steps kept held steps' : KeptSteps) (end : Result (Unit {0}) EngineFault) (c : Completion) (p : Pumped used lists room waiting before b ops mid steps kept (Ok tt))
+      → here ≡ b → now ≡ mid → held ≡ kept → left ≡ after → used here [] (c ∷ []) after → WhereTold (Reaps c) (lists here) (lists after) → room after ≡ room here → waiting here ≡ waiting after + 1
+      → Pumps now (c ∷ []) ops' end → steps' ≡ kept_of now c held → (q : Pumped used lists room waiting before left ops ops' steps steps' end) × (q.completions ≡ p.completions ++ c ∷ [])
+  Pumped-more before b here after left ops mid now ops' steps kept held steps' end c p at same same_steps last uses told rooms less takes keeps =
       let same_room = rooms ∙ ap room at in
-      subst (λ r. (q : Pumped used lists room waiting before r ops ops' end) × (q.completions ≡ p.completions ++ c ∷ [])) (sym last) (
+      subst (λ r. (q : Pumped used lists room waiting before r ops ops' steps steps' end) × (q.completions ≡ p.completions ++ c ∷ [])) (sym last) (
         record {
           completions = p.completions ++ c ∷ [];
           uses = used_then before b after [] [] p.completions (c ∷ []) p.uses (subst (λ r. used r [] (c ∷ []) after) at uses);
           told = reaped_then (lists before) (lists b) (lists after) p.completions c p.told (subst (λ r. WhereTold (Reaps c) (lists r) (lists after)) at told);
           seen = sees_then (lists b) (lists after) c (room b) (room after) (waiting b) (waiting after) p.seen (subst (λ r. WhereTold (Reaps c) (lists r) (lists after)) at told) same_room (sym (ap waiting at) ∙ less);
           places = at_most (room before) (room b) (room after) same_room p.places;
-          completed = Pumps-more ops p.completions mid c ops' end p.completed (subst (λ o. Pumps o (c ∷ []) ops' end) same steps);
+          completed = Pumps-more ops p.completions mid c ops' end p.completed (subst (λ o. Pumps o (c ∷ []) ops' end) same takes);
+          kept = keeps ∙ (λ i. kept_of (same i) c ((same_steps ∙ p.kept) i)) ∙ kept_more ops p.completions mid c steps p.completed;
         },
         refl,
       )
 
   -- nothing more was left
-  pub Pumped-same : (before b here after : R) (ops mid now : Ops) (p : Pumped used lists room waiting before b ops mid (Ok tt))
-      → here ≡ b → now ≡ mid → used here [] [] after → lists after ≡ lists here → room after ≡ room here → waiting here ≡ waiting after
-      → (q : Pumped used lists room waiting before after ops now (Ok tt)) × (finals_in q.completions ≡ finals_in p.completions)
-  Pumped-same before b here after ops mid now p at same uses told rooms less =
+  pub Pumped-same : (before b here after : R) (ops mid now : Ops) (steps kept held : KeptSteps) (p : Pumped used lists room waiting before b ops mid steps kept (Ok tt))
+      → here ≡ b → now ≡ mid → held ≡ kept → used here [] [] after → lists after ≡ lists here → room after ≡ room here → waiting here ≡ waiting after
+      → (q : Pumped used lists room waiting before after ops now steps held (Ok tt)) × (finals_in q.completions ≡ finals_in p.completions)
+  Pumped-same before b here after ops mid now steps kept held p at same same_steps uses told rooms less =
       let u = used_then before b after [] [] p.completions [] p.uses (subst (λ r. used r [] [] after) at uses) in
       let lists_same = told ∙ ap lists at in
       let room_same = rooms ∙ ap room at in
@@ -104,9 +118,23 @@ module _ {R : Type 0} (used : R → List Taken → List Completion → R → Typ
           seen = subst (λ o. Sees o (room after) (waiting after)) (sym lists_same) (subst (λ n. Sees (lists b) n (waiting after)) (sym room_same) (subst (λ n. Sees (lists b) (room b) n) (sym waiting_same) p.seen));
           places = at_most (room before) (room b) (room after) room_same p.places;
           completed = subst (λ o. Pumps ops p.completions o (Ok tt)) (sym same) p.completed;
+          kept = same_steps ∙ p.kept;
         },
         refl,
       )
+
+  -- memory lacks for the next step
+  pub Pumped-lacking : (before b here : R) (ops mid now : Ops) (steps kept held : KeptSteps) → Pumped used lists room waiting before b ops mid steps kept (Ok tt) → here ≡ b → now ≡ mid → held ≡ kept → Pumped used lists room waiting before here ops now steps held (Err NoMemory)
+  Pumped-lacking before b here ops mid now steps kept held p at same same_steps =
+      subst (λ r. Pumped used lists room waiting before r ops now steps held (Err NoMemory)) (sym at) (record {
+        completions = p.completions;
+        uses = p.uses;
+        told = p.told;
+        seen = p.seen;
+        places = p.places;
+        completed = subst (λ o. Pumps ops p.completions o (Err NoMemory)) (sym same) (Pumps-lacking ops p.completions mid p.completed);
+        kept = same_steps ∙ p.kept;
+      })
 
 -- how many are final
 count_more : (p : Completion → Bool) (cs : List Completion) (c : Completion) → count_by p (cs ++ c ∷ []) ≡ count_by p cs + cond (p c) 1 0
@@ -126,15 +154,3 @@ pub no_fault : (ops : Ops) (cs : List Completion) (after : Ops) (errno : ℕ) �
 no_fault ops [] after errno p = p
 no_fault ops (c ∷ cs) after errno (inl p) = let e : ⊥ = cc (p.3) in e
 no_fault ops (c ∷ cs) after errno (inr p) = no_fault (completed ops c) cs after errno p.1
-
-one_step : (b : Bool) (step : Step) → is_some (cond b (Some step) None) ≡ b
-one_step true step = refl
-one_step false step = refl
-
-turned : (m b : Bool) → m ≡ not b → b ≡ not m
-turned m true e = ap not (sym e)
-turned m false e = ap not (sym e)
-
--- a completion that is no step is final
-pub is_last : (c : Completion) (o : Option Step) (b : Bool) → o ≡ step_of c → is_some o ≡ not b → b ≡ is_final c.flags
-is_last c o b e is = turned (is_more c.flags) b (sym (one_step (is_more c.flags) _) ∙ ap is_some (sym e) ∙ is)

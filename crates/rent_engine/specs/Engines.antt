@@ -1,6 +1,9 @@
 -- What a contract sees of an engine, and what its calls do with the rings.
-use Rattle.std.specs.Prelude.{◌≡◌, ℕ, ◌+◌, ◌-◌, ◌^◌, ◌≤◌, min, refl, Option, Some, None, IfSome, Result, List, [], ◌++◌, length, count_by}
-use Rattle.std.specs.Coded.{Coded, code_by, coded×, coded_ℕ}
+use Rattle.std.specs.Prelude.{◌≡◌, ℕ, ◌+◌, ◌-◌, ◌^◌, ◌≤◌, ◌||◌, Bool, min, bit_and, bit_or, refl, Option, Some, None, IfSome, Result, List, [], ◌++◌, length, count_by}
+use Rattle.std.specs.Int.{w8, bit_not}
+use Rattle.std.specs.Coded.{Coded, code_by, coded×, coded_ℕ, coded_bool, coded_list}
+use Rattle.uring_base.specs.FlagBits.{bits_in, has_flags}
+use Rattle.uring_base.specs.declared.flags.TheConstants.Flags.{IO_LINK, IO_HARDLINK, SKIP_SUCCESS}
 use Rattle.uring_base.specs.declared.squeue.Entry.{Entry}
 use Rattle.uring_base.specs.declared.buffer.Buf.{Buf}
 use Rattle.uring_base.specs.declared.buffer.Loan.{Loan}
@@ -11,27 +14,49 @@ use Rattle.uring_ops_file.specs.Rows.{new_async_cancel, async_cancel_words}
 use Rattle.ring_setup.specs.declared.parameters.Parameters.{Parameters}
 use Rattle.ring_setup.specs.contracts.parameters.Parameters as parameters
 use Rattle.ring_traits.specs.Lists.{Lists, Becomes, WhereTold, free_of, small}
+use Rattle.rent_table.specs.Kept.{ops_code}
+use Rattle.rent_table.specs.Ops.{Ops}
+use Rattle.rent_table.specs.Steps.{KeptSteps, steps_code}
 use Rattle.rent_engine.specs.declared.fault.EngineFault.{EngineFault}
-use Rattle.rent_engine.specs.Kept.{ops_code}
-use Rattle.rent_engine.specs.Ops.{Ops, Pumps}
+use Rattle.rent_engine.specs.Ops.{Pumps, steps_after}
 
 pub record EngineState (R : Type 0) : Type 0 where
   pub ring : R
   pub params : Parameters
   pub ops : Ops
-  -- how many more operations can be started with no memory
+  pub steps : KeptSteps
+  -- whether each handle is canceled
+  pub handles : List Bool
+  -- how many more operations can be started with no memory, and how many more steps kept
   pub spare : ℕ
+  pub step_room : ℕ
 
 abbrev pub engine_code : {R : Type 0} → Coded R → Coded (EngineState R)
-engine_code {R} coded = code_by (R × (Parameters × (Ops × ℕ))) (coded× coded (coded× parameters.the_row.coded (coded× ops_code coded_ℕ))) (λ e. (e.ring, (e.params, (e.ops, e.spare)))) (λ p. record { ring = p.0; params = p.1.0; ops = p.1.1.0; spare = p.1.1.1 }) (λ _. refl)
+engine_code {R} coded = code_by (R × (Parameters × (Ops × (KeptSteps × (List Bool × (ℕ × ℕ)))))) (coded× coded (coded× parameters.the_row.coded (coded× ops_code (coded× steps_code (coded× (coded_list coded_bool) (coded× coded_ℕ coded_ℕ)))))) (λ e. (e.ring, (e.params, (e.ops, (e.steps, (e.handles, (e.spare, e.step_room))))))) (λ p. record { ring = p.0; params = p.1.0; ops = p.1.1.0; steps = p.1.1.1.0; handles = p.1.1.1.1.0; spare = p.1.1.1.1.1.0; step_room = p.1.1.1.1.1.1 }) (λ _. refl)
 
 abbrev pub loan_of : ℕ → ℕ → Option Buf → Option Loan
 loan_of n from None = None
 loan_of n from (Some buf) = Some (record { number = n; from = from; buf = buf })
 
+-- the flags, by which a completion is posted whatever the result
+abbrev pub posting : ℕ → ℕ
+posting flags = bit_and flags (bit_not w8 (bits_in SKIP_SUCCESS))
+
+-- the flags, by which nothing is posted where the operation succeeds
+abbrev pub skipping : ℕ → ℕ
+skipping flags = bit_or flags (bits_in SKIP_SUCCESS)
+
+-- the next entry starts when this one is done
+abbrev pub is_linked : Entry → Bool
+is_linked entry = has_flags entry.flags IO_LINK || has_flags entry.flags IO_HARDLINK
+
 -- what is offered for an operation: its entry under its number, with its buffer lent
 abbrev pub offered_entry : ℕ → Entry → ℕ → Option Buf → Taken
-offered_entry n entry from buf = small (record entry { user_data = n }) (loan_of n from buf)
+offered_entry n entry from buf = small (record entry { flags = posting entry.flags; user_data = n }) (loan_of n from buf)
+
+-- what is offered for a quiet operation: its entry under its number, without a loan
+abbrev pub offered_quiet : ℕ → Entry → Taken
+offered_quiet n entry = small (record entry { flags = skipping entry.flags; user_data = n }) None
 
 -- what is offered for the cancel of an operation: the entry of its builder, without a loan
 abbrev pub offered_cancel : ℕ → ℕ → Taken
@@ -59,13 +84,14 @@ module _ {R : Type 0} (used : R → List Taken → List Completion → R → Typ
     pub seen : waiting after ≡ waiting before
 
   -- what is offered is published, what the partner did is seen, and completions are reaped and taken one after another
-  pub record Pumped (before after : R) (ops ops' : Ops) (end : Result (Unit {0}) EngineFault) : Type 0 where
+  pub record Pumped (before after : R) (ops ops' : Ops) (steps steps' : KeptSteps) (end : Result (Unit {0}) EngineFault) : Type 0 where
     pub completions : List Completion
     pub uses : used before [] completions after
     pub told : WhereTold (Reaped completions) (lists before) (lists after)
     pub seen : IfSome (lists after) (λ l. (room after ≡ free_of l) × (waiting after ≡ length l.completions))
     pub places : room before ≤ room after
     pub completed : Pumps ops completions ops' end
+    pub kept : steps' ≡ steps_after ops completions steps
 
 -- how many are final, as far as 32 bits tell
 abbrev pub finals_in : List Completion → ℕ

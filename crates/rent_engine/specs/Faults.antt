@@ -9,7 +9,6 @@ use Rattle.uring_base.specs.declared.buffer.Buf.{Buf}
 use Rattle.uring_base.specs.declared.errno.TheConstants.{EEXIST, EINVAL}
 use Rattle.uring_submit.specs.declared.error.SubmitError.{SubmitError}
 use Rattle.uring_submit.specs.declared.error.SubmitError.TheVariants as submit
-use Rattle.rent_engine.specs.declared.ops.OpKey.{OpKey}
 use Rattle.rent_engine.specs.declared.fault.StartFault.{StartFault}
 use Rattle.rent_engine.specs.declared.fault.StartFault.TheVariants as starts
 use Rattle.rent_engine.specs.declared.fault.EngineFault.{EngineFault}
@@ -56,20 +55,20 @@ fault_buf (starts.RingFull buf) = buf
 fault_buf (starts.NoMemory buf) = buf
 
 -- which refusal it is
-abbrev pub is_key_in_use : Result OpKey StartFault → Bool
-is_key_in_use (Ok key) = false
+abbrev pub is_key_in_use : {T : Type 0} → Result T StartFault → Bool
+is_key_in_use (Ok _) = false
 is_key_in_use (Err (starts.KeyInUse buf)) = true
 is_key_in_use (Err (starts.RingFull buf)) = false
 is_key_in_use (Err (starts.NoMemory buf)) = false
 
-abbrev pub is_ring_full : Result OpKey StartFault → Bool
-is_ring_full (Ok key) = false
+abbrev pub is_ring_full : {T : Type 0} → Result T StartFault → Bool
+is_ring_full (Ok _) = false
 is_ring_full (Err (starts.KeyInUse buf)) = false
 is_ring_full (Err (starts.RingFull buf)) = true
 is_ring_full (Err (starts.NoMemory buf)) = false
 
-abbrev pub is_no_memory : Result OpKey StartFault → Bool
-is_no_memory (Ok key) = false
+abbrev pub is_no_memory : {T : Type 0} → Result T StartFault → Bool
+is_no_memory (Ok _) = false
 is_no_memory (Err (starts.KeyInUse buf)) = false
 is_no_memory (Err (starts.RingFull buf)) = false
 is_no_memory (Err (starts.NoMemory buf)) = true

@@ -1,9 +1,8 @@
 pub mod Engines
 pub mod Executor
 pub mod Faults
-pub mod Kept
+pub mod Handles
 pub mod Laws
-pub mod NumberedSlab
 pub mod OneOp
 pub mod Ops
 pub mod States

@@ -12,7 +12,8 @@ use Rattle.rent_engine.specs.declared.one_op.Stage.{Stage}
 use Rattle.rent_engine.specs.declared.one_op.Stage.TheVariants.{Offers, Waits, Over}
 use Rattle.rent_engine.specs.declared.one_op.OneAnswer.{OneAnswer}
 use Rattle.rent_engine.specs.declared.one_op.OneAnswer.TheVariants.{Done, InUse, NoMemory, Lost}
-use Rattle.rent_engine.specs.Ops.{Ops, knows, started, polled, taken_out}
+use Rattle.rent_table.specs.Ops.{Ops, knows, started, taken_out}
+use Rattle.rent_engine.specs.Ops.{polled}
 use Rattle.rent_engine.specs.Engines.{offered_entry}
 use Rattle.rent_engine.specs.States.{poll_map}
 
@@ -58,7 +59,7 @@ request_entry request n = offered_entry n (addressed n request.buf request.entry
 pub record Begins (request : Request) (n : ℕ) (ops : Ops) (ts : List Taken) (answer : Poll OneAnswer) (after : Ops) (stage : Stage) : Type 0 where
   pub unknown : knows ops n ≡ false
   pub entries : ts ≡ request_entry request n ∷ []
-  pub operations : after ≡ started n (is_some request.buf) ops
+  pub operations : after ≡ started n (is_some request.buf) None ops
   pub gives : answer ≡ Pending
   pub next : stage ≡ Waits n
 

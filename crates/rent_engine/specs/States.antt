@@ -2,7 +2,7 @@
 use Rattle.std.specs.Prelude.{◌≡◌, ℕ, Bool, true, false, ◌&&◌, ◌==◌, Option, Some, None, is_some}
 use Rattle.rent_engine.specs.declared.state.Poll.{Poll}
 use Rattle.rent_engine.specs.declared.state.Poll.TheVariants.{Ready, Pending}
-use Rattle.rent_engine.specs.Ops.{Ops, flight_at}
+use Rattle.rent_table.specs.Ops.{Ops, flight_at}
 
 abbrev pub is_pending : {T : Type 0} → Poll T → Bool
 is_pending (Ready _) = false

@@ -9,9 +9,10 @@ use Rattle.ring_traits.specs.Lists.{Lists, Becomes, all_published}
 use Rattle.uring_submit.specs.declared.error.SubmitError.{SubmitError}
 use Rattle.uring_submit.specs.Decisions.{wanted_call}
 use Rattle.uring_submit.specs.Submits.{EntersOnce}
+use Rattle.rent_table.specs.Ops.{Ops}
+use Rattle.rent_table.specs.Steps.{KeptSteps}
 use Rattle.rent_engine.specs.declared.fault.EngineFault.{EngineFault}
 use Rattle.rent_engine.specs.declared.ops.TurnReport.{TurnReport}
-use Rattle.rent_engine.specs.Ops.{Ops}
 use Rattle.rent_engine.specs.Engines.{Pumped, finals_in}
 use Rattle.rent_engine.specs.Faults.{ending, engine_fault_of}
 
@@ -27,14 +28,14 @@ module _ {W : Type 0} (m : Machine W) {P R : Type 0} (log : P → Option (List L
 
   module _ (room waiting : R → ℕ) where
     -- after an enter that succeeds all is pumped, and the report says how many were taken; after another nothing more is done
-    abbrev pub TurnEnds : Result ℕ SubmitError → R → R → Ops → Ops → Result TurnReport EngineFault → Type 0
-    TurnEnds (Ok taken) left after ops ops' result =
-        (p : Pumped used lists room waiting left after ops ops' (ending result))
+    abbrev pub TurnEnds : Result ℕ SubmitError → R → R → Ops → Ops → KeptSteps → KeptSteps → Result TurnReport EngineFault → Type 0
+    TurnEnds (Ok taken) left after ops ops' steps steps' result =
+        (p : Pumped used lists room waiting left after ops ops' steps steps' (ending result))
         × IfOk result (λ report. (report.taken ≡ taken) × (report.finals ≡ finals_in p.completions))
-    TurnEnds (Err error) left after ops ops' result = (after ≡ left) × (ops' ≡ ops) × (result ≡ Err (engine_fault_of error))
+    TurnEnds (Err error) left after ops ops' steps steps' result = (after ≡ left) × (ops' ≡ ops) × (steps' ≡ steps) × (result ≡ Err (engine_fault_of error))
 
-    pub record EngineTurned (params : Parameters) (old new : P) (before after : R) (ops ops' : Ops) (result : Result TurnReport EngineFault) : Type 0 where
+    pub record EngineTurned (params : Parameters) (old new : P) (before after : R) (ops ops' : Ops) (steps steps' : KeptSteps) (result : Result TurnReport EngineFault) : Type 0 where
       pub left : R
       pub answer : Result ℕ SubmitError
       pub submitted : Submitted params old new before left answer
-      pub ends : TurnEnds answer left after ops ops' result
+      pub ends : TurnEnds answer left after ops ops' steps steps' result

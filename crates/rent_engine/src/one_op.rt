@@ -9,8 +9,9 @@ ghost use Rattle.rent_engine.specs.States.{is_pending, waits_on, KeepsInFlight};
 
 use crate::engine::Engine;
 use crate::fault::StartFault;
-use crate::ops::{OpDone, OpKey, OpPoll};
+use crate::ops::{OpKey, OpPoll};
 use crate::state::{OpState, Poll};
+use rent_table::OpDone;
 use ring_traits::UserEnds;
 use std::alloc::Global;
 use std::marker::Model;

@@ -31,7 +31,7 @@ pub trait OpState {
     ghost use Rattle.std.specs.Prelude.{◌≡◌, ◌+◌, ◌≤◌, ℕ, Bool, not, false, List, Option};
     ghost use Rattle.uring_base.specs.declared.events.Taken.{Taken};
     ghost use Rattle.rent_engine.specs.declared.state.Poll.{Poll};
-    ghost use Rattle.rent_engine.specs.Ops.{Ops};
+    ghost use Rattle.rent_table.specs.Ops.{Ops};
     ghost use Rattle.rent_engine.specs.Engines.{Offered};
     ghost use Rattle.rent_engine.specs.States.{is_pending, waits_on, KeepsInFlight};
 

@@ -23,13 +23,14 @@ impl<R: UserEnds + PartnerSide> Engine<R> {
         alloc: Global,
         partner: &mut P,
     ) -> Result<TurnReport, EngineFault>
-        ensures turned { EngineTurned P.machine P.log P.state R.lists R.ready R.space R.moved R.flags_word R.used R.room R.waiting self.old.params partner.old partner.new self.old.ring self.new.ring self.old.ops self.new.ops result }
+        ensures turned { EngineTurned P.machine P.log P.state R.lists R.ready R.space R.moved R.flags_word R.used R.room R.waiting self.old.params partner.old partner.new self.old.ring self.new.ring self.old.ops self.new.ops self.old.steps self.new.steps result }
         ensures none_left { OnOk result (R.waiting self.new.ring ≡ 0) }
         ensures cause { HasCause is_engine_fault (P.faults partner.old) (P.faults partner.new) result }
         ensures planned { IfSome (P.state partner.old) (λ _. IfErr result (λ fault. IsTrue (is_engine_fault fault) → Contains (P.plan partner.old) 1)) }
         ensures counted { IfSome (P.state partner.old) (λ _. ¬ Contains (P.plan partner.old) 1 → P.faults partner.new ≡ P.faults partner.old) }
         ensures plan { P.plan partner.new ≡ later_plan (P.plan partner.old) }
         ensures errno { KeepsEngineErrno result (P.errno partner.old) (P.errno partner.new) }
+        ensures handles { self.new.handles ≡ self.old.handles }
         ensures spare { self.old.spare ≤ self.new.spare }
         ensures params { self.new.params ≡ self.old.params }
     {
@@ -52,6 +53,8 @@ impl<R: UserEnds + PartnerSide> Engine<R> {
         ensures errors { IfErr result (λ e. is_of_partner e ≡ true) }
         ensures fits { IfOk result (λ n. n < 2 ^ 32) }
         ensures ops { self.new.ops ≡ self.old.ops }
+        ensures steps { self.new.steps ≡ self.old.steps }
+        ensures handles { self.new.handles ≡ self.old.handles }
         ensures spare { self.new.spare ≡ self.old.spare }
         ensures params { self.new.params ≡ self.old.params }
     {

@@ -37,6 +37,7 @@ fn of_done(alloc: Global, done: OpDone) -> (Result<usize, FsError>, Buf)
         result,
         flags: _,
         buf,
+        quiet: _,
     } = done;
     match buf {
         Some(buf) => (count_of(result), buf),

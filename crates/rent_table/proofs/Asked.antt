@@ -50,7 +50,7 @@ quietly_apart_by : (o : Option Flight) (n : ℕ) (ops : Ops) → flight_at ops n
 quietly_apart_by None n ops at apart = apart
 quietly_apart_by (Some flight) n ops at apart = apart_as flight n quiet_outcome ops at apart
 
-all_apart : (ns : List ℕ) (ops : Ops) → AreApart ops → AreApart (all_quietly_resolved ns ops)
+pub all_apart : (ns : List ℕ) (ops : Ops) → AreApart ops → AreApart (all_quietly_resolved ns ops)
 all_apart [] ops apart = apart
 all_apart (n ∷ ns) ops apart = let all = all_quietly_resolved ns ops in quietly_apart_by (flight_at all n) n all refl (all_apart ns ops apart)
 

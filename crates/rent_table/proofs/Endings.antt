@@ -47,7 +47,7 @@ pub told_flight : (n : ℕ) (ops : Ops) (q : ℕ) → flight_at (quietly_resolve
 told_flight n ops q = told_flight_by (flight_at ops n) n ops q refl
 
 -- what a quiet end leaves as the outcome of a number
-abbrev done_told : Option Flight → Option OpDone → Option OpDone
+abbrev pub done_told : Option Flight → Option OpDone → Option OpDone
 done_told None d = d
 done_told (Some f) d = cond f.forgotten d (Some quiet_outcome)
 
@@ -80,7 +80,7 @@ told_twice true true f d = refl
 told_twice true false f d = refl
 told_twice false b f d = refl
 
-all_done : (ns : List ℕ) (ops : Ops) (q : ℕ) → done_at (all_quietly_resolved ns ops) q ≡ cond (has q ns) (done_told (flight_at ops q) (done_at ops q)) (done_at ops q)
+pub all_done : (ns : List ℕ) (ops : Ops) (q : ℕ) → done_at (all_quietly_resolved ns ops) q ≡ cond (has q ns) (done_told (flight_at ops q) (done_at ops q)) (done_at ops q)
 all_done [] ops q = refl
 all_done (n ∷ ns) ops q =
     told_done n (all_quietly_resolved ns ops) q

@@ -8,12 +8,13 @@ use Rattle.uring_base.specs.declared.buffer.Loan.{Loan}
 use Rattle.uring_base.specs.declared.events.Completion.{Completion}
 use Rattle.uring_base.specs.Completions.{is_final}
 use Rattle.uring_model.specs.Strange.{has_other_number, has_wrong_loan}
-use Rattle.rent_engine.specs.declared.ops.Flight.{Flight}
-use Rattle.rent_engine.specs.declared.ops.OpDone.{OpDone}
+use Rattle.rent_table.specs.declared.ops.Flight.{Flight}
+use Rattle.rent_table.specs.declared.ops.OpDone.{OpDone}
 use Rattle.rent_engine.specs.declared.ops.OpPoll.{OpPoll}
 use Rattle.rent_engine.specs.declared.ops.OpPoll.TheVariants.{Ready, Pending}
 use Rattle.rent_engine.specs.Ops as engine
-use Rattle.rent_engine.specs.Ops.{Ops, flight_at, done_at, knows, started, has_strange_loan, is_strange_for, completed, resolved, outcome, polled, polled_done, taken_out}
+use Rattle.rent_table.specs.Ops.{Ops, flight_at, done_at, knows, taken_out}
+use Rattle.rent_engine.specs.Ops.{has_strange_loan, is_strange_for, completed, outcome, polled, polled_done}
 use Rattle.run_loop.specs.declared.slot.Reply.{Reply}
 use Rattle.run_loop.specs.declared.slot.Slot.{Slot}
 use Rattle.run_loop.specs.declared.slot.Slot.TheVariants.{Open, Done}
@@ -114,12 +115,12 @@ pub same_stranger : (ops : Ops) (begun : ℕ) (slots : List Slot) (c : Completio
 same_stranger ops begun slots c e = ap (λ o. is_strange_for o c) e ∙ strange_in (nat_lt c.user_data begun) (slice_get slots c.user_data) c
 
 -- an operation in flight is of a started job with an open slot
-pub flight_open : (b : Bool) (slot : Option Slot) (flight : Flight) → cond b (slot_flight slot) None ≡ Some flight → (reply : Reply) × (b ≡ true) × (slot ≡ Some (Open reply)) × (lends reply ≡ flight.lent) × (flight.forgotten ≡ false)
+pub flight_open : (b : Bool) (slot : Option Slot) (flight : Flight) → cond b (slot_flight slot) None ≡ Some flight → (reply : Reply) × (b ≡ true) × (slot ≡ Some (Open reply)) × (lends reply ≡ flight.lent) × (flight.forgotten ≡ false) × (flight.next ≡ None)
 flight_open true None flight e = let bad : None ≡ Some flight = e in cc
 flight_open true (Some (Open reply)) flight e =
-    let same : Some (record { lent = lends reply; forgotten = false }) ≡ Some flight = e in
-    let f : record { lent = lends reply; forgotten = false } ≡ flight = cc in
-    (reply, refl, refl, ap (λ (x : Flight). x.lent) f, sym (ap (λ (x : Flight). x.forgotten) f))
+    let same : Some (record { lent = lends reply; forgotten = false; next = None }) ≡ Some flight = e in
+    let f : record { lent = lends reply; forgotten = false; next = None } ≡ flight = cc in
+    (reply, refl, refl, ap (λ (x : Flight). x.lent) f, sym (ap (λ (x : Flight). x.forgotten) f), sym (ap (λ (x : Flight). x.next) f))
 flight_open true (Some (Done o)) flight e = let bad : None ≡ Some flight = e in cc
 flight_open false slot flight e = let bad : None ≡ Some flight = e in cc
 

@@ -2,10 +2,10 @@
 use Rattle.std.proofs.Common.{◌≡◌, ℕ, ◌+◌, zero, suc, cond, List, [], ◌∷◌, ◌++◌, Some, is_some, IfSome, slice_get, slice_set, ap, sym, subst, ◌∙◌, arith}
 use Rattle.std.specs.List.{AllByRecursion}
 use Rattle.uring_model.specs.declared.jobs.Outcome.{Outcome}
-use Rattle.rent_engine.specs.declared.ops.OpDone.{OpDone}
+use Rattle.rent_table.specs.declared.ops.OpDone.{OpDone}
 use Rattle.rent_engine.specs.declared.ops.OpPoll.{OpPoll}
 use Rattle.rent_engine.specs.declared.ops.OpPoll.TheVariants.{Ready, Pending, Lost}
-use Rattle.rent_engine.specs.Ops.{Ops, done_at, knows}
+use Rattle.rent_table.specs.Ops.{Ops, done_at, knows}
 use Rattle.run_loop.specs.declared.flights.InFlight.{InFlight}
 use Rattle.run_loop.specs.declared.slot.Reply.{Reply}
 use Rattle.run_loop.specs.declared.slot.Slot.{Slot}

@@ -3,8 +3,8 @@ use Rattle.std.proofs.Common.{◌≡◌, ℕ, ℤ, true, ◌||◌, if◌then◌e
 use Rattle.uring_base.specs.declared.events.Taken.{Taken}
 use Rattle.uring_model.specs.declared.jobs.Outcome.{Outcome}
 use Rattle.ring_traits.specs.Lists.{Lists, Becomes}
-use Rattle.rent_engine.specs.declared.ops.Flight.{Flight}
-use Rattle.rent_engine.specs.declared.ops.OpDone.{OpDone}
+use Rattle.rent_table.specs.declared.ops.Flight.{Flight}
+use Rattle.rent_table.specs.declared.ops.OpDone.{OpDone}
 use Rattle.rent_engine.specs.declared.ops.OpPoll.TheVariants as polls
 use Rattle.rent_engine.specs.declared.state.Poll.{Poll}
 use Rattle.rent_engine.specs.declared.state.Poll.TheVariants.{Ready}
@@ -12,7 +12,8 @@ use Rattle.rent_engine.specs.declared.one_op.OneAnswer.{OneAnswer}
 use Rattle.rent_engine.specs.declared.one_op.Stage.{Stage}
 use Rattle.rent_engine.specs.declared.one_op.Stage.TheVariants.{Offers, Waits, Over}
 use Rattle.rent_engine.specs.Engines.{all_offered}
-use Rattle.rent_engine.specs.Ops.{Ops, polled, polled_done, taken_out}
+use Rattle.rent_table.specs.Ops.{Ops, taken_out}
+use Rattle.rent_engine.specs.Ops.{polled, polled_done}
 use Rattle.rent_engine.specs.OneOp.{PollsAs, answer_of, stage_key}
 use Rattle.rent_engine.specs.States.{poll_map}
 use Rattle.rent_fs.specs.declared.error.FsError.{FsError}

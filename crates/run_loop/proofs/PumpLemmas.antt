@@ -1,15 +1,17 @@
 -- Completions that an engine takes one after another, and the slots of their jobs.
-use Rattle.std.proofs.Common.{◌≡◌, ℕ, Bool, true, false, ◌||◌, not, cond, nat_eq, nat_lt, List, [], ◌∷◌, Result, Ok, Err, Option, Some, None, is_some, IfSome, inl, inr, slice_get, slice_set, refl, ap, sym, subst, ◌∙◌}
-use Rattle.std.specs.FinMap.{insert, remove}
+use Rattle.std.proofs.Common.{◌≡◌, ℕ, zero, suc, Bool, true, false, ◌||◌, not, cond, nat_eq, nat_lt, List, [], ◌∷◌, Result, Ok, Err, Option, Some, None, is_some, IfSome, inl, inr, slice_get, slice_set, refl, ap, sym, subst, ◌∙◌}
+use Rattle.std.specs.FinMap.{insert, remove, len, entries}
 use Rattle.uring_base.specs.declared.buffer.Loan.{Loan}
 use Rattle.uring_base.specs.declared.events.Completion.{Completion}
 use Rattle.uring_base.specs.Completions.{is_more, is_final}
 use Rattle.uring_base.specs.Loans.{loan_buf}
-use Rattle.rent_engine.specs.declared.ops.Flight.{Flight}
+use Rattle.rent_table.specs.declared.ops.Flight.{Flight}
 use Rattle.rent_engine.specs.declared.fault.EngineFault.{EngineFault}
 use Rattle.rent_engine.specs.declared.fault.EngineFault.TheVariants.{Stranger, Fault, NoMemory}
 use Rattle.rent_engine.specs.Ops as engine
-use Rattle.rent_engine.specs.Ops.{Ops, flight_at, done_at, knows, has_strange_loan, is_strange_for, completed, resolved, outcome, Pumps}
+use Rattle.rent_table.specs.declared.ops.OpDone.{OpDone}
+use Rattle.rent_table.specs.Ops.{Ops, flight_at, done_at, knows, next_by, next_at, hangs_by, hangs, numbers_where, all_quietly_resolved, with_hanging_resolved, resolved_as}
+use Rattle.rent_engine.specs.Ops.{has_strange_loan, is_strange_for, completed, completed_by, outcome, Pumps}
 use Rattle.run_loop.specs.declared.slot.Reply.{Reply}
 use Rattle.run_loop.specs.declared.slot.Slot.{Slot}
 use Rattle.run_loop.specs.declared.slot.Slot.TheVariants.{Open, Done}
@@ -33,11 +35,43 @@ no_flight : (b : Bool) (slot : Option Slot) → slot_flight slot ≡ None → co
 no_flight true slot e = e
 no_flight false slot e = refl
 
+-- No job is quiet, so nothing in flight has a next number, and nothing hangs on any.
+
+abbrev NoneNext : Ops → Type 0
+NoneNext ops = (n : ℕ) → next_at ops n ≡ None
+
+hangs_none : (k : ℕ) (ops : Ops) (u n : ℕ) → NoneNext ops → hangs k ops u n ≡ false
+hangs_none zero ops u n none = refl
+hangs_none (suc k) ops u n none = ap (hangs_by (hangs k ops u) u) (none n)
+
+numbers_none : (p : ℕ → Bool) (es : List (ℕ × Flight)) → ((n : ℕ) → p n ≡ false) → numbers_where p es ≡ []
+numbers_none p [] h = refl
+numbers_none p (e ∷ es) h = ap (λ b. cond b (e.0 ∷ numbers_where p es) (numbers_where p es)) (h e.0) ∙ numbers_none p es h
+
+none_hang : (u : ℕ) (ops : Ops) → NoneNext ops → with_hanging_resolved u ops ≡ ops
+none_hang u ops none = ap (λ ns. all_quietly_resolved ns ops) (numbers_none (hangs (len ops.in_flight) ops u) (entries ops.in_flight) (λ n. hangs_none (len ops.in_flight) ops u n none))
+
+no_next : (b : Bool) (slot : Option Slot) → next_by (cond b (slot_flight slot) None) ≡ None
+no_next true None = refl
+no_next true (Some (Open reply)) = refl
+no_next true (Some (Done o)) = refl
+no_next false slot = refl
+
+none_next : (ops : Ops) (begun : ℕ) (slots : List Slot) (jobs : List ℕ) → AreOperated ops begun slots jobs → NoneNext ops
+none_next ops begun slots jobs a n = ap next_by (a.in_flight n) ∙ no_next (nat_lt n begun) (slice_get (all_polled ops slots) n)
+
+none_still : (b : Bool) (o : Option Flight) → next_by o ≡ None → next_by (cond b None o) ≡ None
+none_still true o e = refl
+none_still false o e = e
+
+none_next_as : (flight : Flight) (u : ℕ) (done : OpDone) (ops : Ops) → NoneNext ops → NoneNext (resolved_as flight u done ops)
+none_next_as flight u done ops none n = ap next_by (at_remove ops.in_flight u n) ∙ none_still (nat_eq u n) (flight_at ops n) (none n)
+
 module _ (ops : Ops) (begun : ℕ) (slots : List Slot) (jobs : List ℕ) (a : AreOperated ops begun slots jobs) (c : Completion) (due : engine.is_stranger ops c ≡ false) where
   -- one that isn't the last changes nothing
   module _ (more : is_more c.flags ≡ true) where
     unchanged : completed ops c ≡ ops
-    unchanged = λ i. cond (due i || more i) ops (resolved (flight_at ops c.user_data) c ops)
+    unchanged = λ i. cond (due i || more i) ops (completed_by (flight_at ops c.user_data) c ops)
 
     not_landed : land_one (all_polled ops slots) c ≡ all_polled ops slots
     not_landed = λ i. cond (not (more i)) (land_in (slice_get (all_polled ops slots) c.user_data) (all_polled ops slots) c.user_data (record { result = c.result; loan = c.loan })) (all_polled ops slots)
@@ -48,7 +82,7 @@ module _ (ops : Ops) (begun : ℕ) (slots : List Slot) (jobs : List ℕ) (a : Ar
   -- the last one resolves its operation
   module _ (last : is_more c.flags ≡ false) where
     abbrev after : Ops
-    after = record { in_flight = remove ops.in_flight c.user_data; done = insert ops.done c.user_data (outcome c) }
+    after = record { in_flight = remove ops.in_flight c.user_data; done = insert ops.done c.user_data (outcome c); joins = remove ops.joins c.user_data }
 
     the_flight : (flight : Flight) × (flight_at ops c.user_data ≡ Some flight)
     the_flight = some_flight (flight_at ops c.user_data) c due
@@ -62,9 +96,10 @@ module _ (ops : Ops) (begun : ℕ) (slots : List Slot) (jobs : List ℕ) (a : Ar
 
     becomes : completed ops c ≡ after
     becomes =
-        (λ i. cond (due i || last i) ops (resolved (flight_at ops c.user_data) c ops))
-        ∙ ap (λ o. resolved o c ops) the_flight.1
-        ∙ ap (λ b. record { in_flight = remove ops.in_flight c.user_data; done = cond b ops.done (insert ops.done c.user_data (outcome c)) }) spot.4
+        (λ i. cond (due i || last i) ops (completed_by (flight_at ops c.user_data) c ops))
+        ∙ ap (λ o. completed_by o c ops) the_flight.1
+        ∙ none_hang c.user_data (resolved_as the_flight.0 c.user_data (outcome c) ops) (none_next_as the_flight.0 c.user_data (outcome c) ops (none_next ops begun slots jobs a))
+        ∙ ap (λ b. record { in_flight = remove ops.in_flight c.user_data; done = cond b ops.done (insert ops.done c.user_data (outcome c)); joins = remove ops.joins c.user_data }) spot.4
 
     done_here : done_at after c.user_data ≡ Some (outcome c)
     done_here = at_insert ops.done c.user_data (outcome c) c.user_data ∙ ap (λ b. cond b (Some (outcome c)) (done_at ops c.user_data)) (itself c.user_data)

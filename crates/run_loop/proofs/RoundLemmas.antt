@@ -20,7 +20,9 @@ use Rattle.uring_submit.specs.declared.error.SubmitError.TheVariants as submit
 use Rattle.rent_engine.specs.declared.fault.EngineFault.{EngineFault}
 use Rattle.rent_engine.specs.declared.fault.EngineFault.TheVariants as faults
 use Rattle.rent_engine.specs.declared.ops.TurnReport.{TurnReport}
-use Rattle.rent_engine.specs.Ops.{Ops, Pumps}
+use Rattle.rent_table.specs.Ops.{Ops}
+use Rattle.rent_table.specs.Steps.{KeptSteps}
+use Rattle.rent_engine.specs.Ops.{Pumps}
 use Rattle.rent_engine.specs.Engines.{Reaped, finals_in}
 use Rattle.rent_engine.specs.Faults.{ending, engine_fault_of}
 use Rattle.rent_engine.specs.Turns.{TurnEnds, EngineTurned}
@@ -102,23 +104,23 @@ whole_of_full mach (Some a) known space None ms full = tt
 whole_of_full mach (Some a) known space (Some l) ms full = record { ts = full.ts; moves = full.moves ∙ ap (λ t. moves_of_turn (length full.ts) full.ts t.posts) full.told }
 
 module _ {W : Type 0} (mach : schedule.Machine W) {P R : Type 0} (log : P → Option (List LogEvent)) (state : P → Option (schedule.State W)) (lists : R → Option Lists) (ready space : R → ℕ) (kept : Completion → Completion) (moved : R → List Taken → List Completion → R → Type 0) (flags_word : R → ℕ) (used : R → List Taken → List Completion → R → Type 0) (room waiting : R → ℕ) where
-  did_by : (answer : Result ℕ SubmitError) (left to : R) (ops ops' : Ops) (result : Result TurnReport EngineFault) (a : Lists) (ts : List Taken) (ms : List Move) → WhereTold (λ l m. Moves kept l (took ms) (posted ms) m) (Some (offered_to a ts)) (lists left) → TurnEnds mach log state lists ready space moved flags_word used room waiting answer left to ops ops' result
+  did_by : (answer : Result ℕ SubmitError) (left to : R) (ops ops' : Ops) (steps steps' : KeptSteps) (result : Result TurnReport EngineFault) (a : Lists) (ts : List Taken) (ms : List Move) → WhereTold (λ l m. Moves kept l (took ms) (posted ms) m) (Some (offered_to a ts)) (lists left) → TurnEnds mach log state lists ready space moved flags_word used room waiting answer left to ops ops' steps steps' result
       → Did kept a ts ms ops ops' result (is_ok answer) (lists to) (room to) (waiting to)
-  did_by (Ok taken) left to ops ops' result a ts ms m e = record {
+  did_by (Ok taken) left to ops ops' steps steps' result a ts ms m e = record {
     cs = e.0.completions;
     went = pumped_then kept a ts ms e.0.completions (lists left) (lists to) m e.0.told;
     ended = (e.0.completed, finals_of e.0.completions taken result e.1);
     seen = e.0.seen;
   }
-  did_by (Err error) left to ops ops' result a ts ms m e = record {
+  did_by (Err error) left to ops ops' steps steps' result a ts ms m e = record {
     cs = [];
     went = subst (λ r. Went kept a ts ms [] (lists r)) (sym e.0) (entered_then kept a ts ms (lists left) m);
-    ended = (error, e.2);
+    ended = (error, e.3);
     seen = tt;
   }
 
   module _ (moved_told : (a b : R) (ts : List Taken) (cs : List Completion) → moved a ts cs b → WhereTold (λ l m. Moves kept l ts cs m) (lists a) (lists b)) (fits : (r : R) → IfSome (lists r) HasRoom)
-      (params : Parameters) (old new : P) (from mid to : R) (ops ops' : Ops) (result : Result TurnReport EngineFault) (t : EngineTurned mach log state lists ready space moved flags_word used room waiting params old new mid to ops ops' result)
+      (params : Parameters) (old new : P) (from mid to : R) (ops ops' : Ops) (steps steps' : KeptSteps) (result : Result TurnReport EngineFault) (t : EngineTurned mach log state lists ready space moved flags_word used room waiting params old new mid to ops ops' steps steps' result)
       (a : Lists) (ts : List Taken) (told : lists from ≡ Some a) (begun : Becomes (lists from) (pushed_more ts) (lists mid)) where
     at_is : lists t.submitted.shown ≡ Some (offered_to a ts)
     at_is = entered_at a ts (lists from) (lists mid) (lists t.submitted.shown) told begun t.submitted.told
@@ -134,7 +136,7 @@ module _ {W : Type 0} (mach : schedule.Machine W) {P R : Type 0} (log : P → Op
 
     pub turn_did : Did kept a ts moves ops ops' result entered (lists to) (room to) (waiting to)
     turn_did =
-        did_by t.answer t.left to ops ops' result a ts moves
+        did_by t.answer t.left to ops ops' steps steps' result a ts moves
         (subst (λ o. WhereTold (λ l m. Moves kept l (took moves) (posted moves) m) o (lists t.left)) at_is (moved_told t.submitted.shown t.left (took moves) (posted moves) t.submitted.enters.made.sides))
         t.ends
 

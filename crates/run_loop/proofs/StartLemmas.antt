@@ -2,10 +2,11 @@
 use Rattle.std.proofs.Common.{◌≡◌, ℕ, ◌+◌, ◌<◌, suc, ◌⊎◌, inl, inr, bit_or, Bool, true, false, ◌||◌, not, cond, nat_eq, nat_lt, List, [], ◌∷◌, ◌++◌, Option, Some, None, is_some, IfSome, slice_get, slice_set, refl, ap, sym, subst, ◌∙◌, arith}
 use Rattle.std.proofs.lemmas.Bool.Decides.{nat_tests}
 use Rattle.uring_base.specs.declared.events.Completion.{Completion}
-use Rattle.rent_engine.specs.declared.ops.Flight.{Flight}
+use Rattle.rent_table.specs.declared.ops.Flight.{Flight}
 use Rattle.std.specs.Ordering.{nat_cmp}
 use Rattle.std.specs.FinMap.{get-empty}
-use Rattle.rent_engine.specs.Ops.{Ops, no_ops, flight_at, done_at, knows, started}
+use Rattle.rent_table.specs.Ops.{Ops, no_ops, flight_at, done_at, knows, started}
+use Rattle.rent_engine.specs.Engines.{posting}
 use Rattle.uring_base.specs.declared.squeue.Entry.{Entry}
 use Rattle.uring_model.specs.declared.jobs.Link.{Link}
 use Rattle.uring_model.specs.declared.jobs.Link.TheVariants.{Free, Soft, Hard}
@@ -32,7 +33,8 @@ use Rattle.run_loop.proofs.FlightLemmas.{either_way, at_insert, none_polled, tim
 flagged : (e : Entry) (n : ℕ) (bits bits' : ℕ) → bits ≡ bits' → ◌≡◌ {A = Entry} (record e { flags = bits; user_data = n }) (record e { flags = bits'; user_data = n })
 flagged e n bits bits' h = λ i. record e { flags = h i; user_data = n }
 
-marked : (e : Entry) (n : ℕ) (drain : Bool) (link : Link) → (e.flags ≡ 0) ⊎ (e.flags ≡ 1) → ◌≡◌ {A = Entry} (record e { flags = bit_or e.flags (mark_bits drain link); user_data = n }) (record (with_link link (with_drain drain e)) { user_data = n })
+-- those of a drain and of a link lack SKIP_SUCCESS
+marked : (e : Entry) (n : ℕ) (drain : Bool) (link : Link) → (e.flags ≡ 0) ⊎ (e.flags ≡ 1) → ◌≡◌ {A = Entry} (record e { flags = posting (bit_or e.flags (mark_bits drain link)); user_data = n }) (record (with_link link (with_drain drain e)) { user_data = n })
 marked e n true Free (inl h) = flagged e n _ _ (rw h refl)
 marked e n true Free (inr h) = flagged e n _ _ (rw h refl)
 marked e n true Soft (inl h) = flagged e n _ _ (rw h refl)
@@ -75,10 +77,10 @@ one_below n = grind (arith, nat_tests)
 
 module _ (ops : Ops) (begun : ℕ) (slots : List Slot) (jobs : List ℕ) (reply : Reply) (a : AreOperated ops begun slots jobs) (h : NoneResolved ops) (o : slice_get slots begun ≡ Some (Open reply)) where
   abbrev more : Ops
-  more = started begun (lends reply) ops
+  more = started begun (lends reply) None ops
 
   abbrev flight : Flight
-  flight = record { lent = lends reply; forgotten = false }
+  flight = record { lent = lends reply; forgotten = false; next = None }
 
   same_slots : all_polled more slots ≡ all_polled ops slots
   same_slots = none_polled more slots h ∙ sym (none_polled ops slots h)
@@ -118,12 +120,12 @@ module _ (ops : Ops) (begun : ℕ) (slots : List Slot) (jobs : List ℕ) (reply 
 
 -- the same, by what a start told
 pub started_next : (ops : Ops) (begun : ℕ) (slots : List Slot) (jobs : List ℕ) (offer : Offer) → AreOperated ops begun slots jobs → NoneResolved ops → IsAhead begun slots offer
-    → (ops' : Ops) (begun' : ℕ) (slots' : List Slot) (jobs' : List ℕ) → ops' ≡ started begun (lends offer.reply) ops → begun' ≡ begun + 1 → slots' ≡ slots → jobs' ≡ jobs ++ begun ∷ []
+    → (ops' : Ops) (begun' : ℕ) (slots' : List Slot) (jobs' : List ℕ) → ops' ≡ started begun (lends offer.reply) None ops → begun' ≡ begun + 1 → slots' ≡ slots → jobs' ≡ jobs ++ begun ∷ []
     → AreOperated ops' begun' slots' jobs' × NoneResolved ops'
 started_next ops begun slots jobs offer a h o ops' begun' slots' jobs' e f g k =
     let lent = lends offer.reply in
     let p = one_started ops begun slots jobs offer.reply a h o.slot in (
-      subst (λ x. AreOperated x begun' slots' jobs') (sym e) (subst (λ x. AreOperated (started begun lent ops) x slots' jobs') (sym f) (subst (λ x. AreOperated (started begun lent ops) (begun + 1) x jobs') (sym g) (subst (λ x. AreOperated (started begun lent ops) (begun + 1) slots x) (sym k) p))),
+      subst (λ x. AreOperated x begun' slots' jobs') (sym e) (subst (λ x. AreOperated (started begun lent None ops) x slots' jobs') (sym f) (subst (λ x. AreOperated (started begun lent None ops) (begun + 1) x jobs') (sym g) (subst (λ x. AreOperated (started begun lent None ops) (begun + 1) slots x) (sym k) p))),
       subst NoneResolved (sym e) h,
     )
 

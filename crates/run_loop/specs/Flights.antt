@@ -1,11 +1,11 @@
 -- The operations that an engine has for the jobs of a run.
 use Rattle.std.specs.Prelude.{◌≡◌, ℕ, ◌+◌, false, if◌then◌else◌, nat_lt, nat_eq, List, [], ◌∷◌, Option, Some, None, is_some, IfSome, slice_get, slice_set, map}
 use Rattle.uring_model.specs.declared.jobs.Outcome.{Outcome}
-use Rattle.rent_engine.specs.declared.ops.Flight.{Flight}
-use Rattle.rent_engine.specs.declared.ops.OpDone.{OpDone}
+use Rattle.rent_table.specs.declared.ops.Flight.{Flight}
+use Rattle.rent_table.specs.declared.ops.OpDone.{OpDone}
 use Rattle.rent_engine.specs.declared.ops.OpPoll.{OpPoll}
 use Rattle.rent_engine.specs.declared.ops.OpPoll.TheVariants.{Ready, Pending, Lost}
-use Rattle.rent_engine.specs.Ops.{Ops, flight_at, done_at, knows}
+use Rattle.rent_table.specs.Ops.{Ops, flight_at, done_at, knows}
 use Rattle.std.specs.List.{AllByRecursion}
 use Rattle.run_loop.specs.JobOps.{reply_of}
 use Rattle.run_loop.specs.Told.{lends, heard}
@@ -24,7 +24,7 @@ pub record WasLent (slots : List Slot) (n : ℕ) (done : OpDone) : Type 0 where
 -- a job without an outcome has an operation in flight, that lends a buffer where the job does
 abbrev pub slot_flight : Option Slot → Option Flight
 slot_flight None = None
-slot_flight (Some (Open reply)) = Some (record { lent = lends reply; forgotten = false })
+slot_flight (Some (Open reply)) = Some (record { lent = lends reply; forgotten = false; next = None })
 slot_flight (Some (Done outcome)) = None
 
 abbrev pub flight_in : ℕ → List Slot → ℕ → Option Flight

@@ -1,5 +1,5 @@
 -- How a job's operation is begun and polled.
-use Rattle.std.specs.Prelude.{◌≡◌, ℕ, ◌+◌, Bool, true, bit_or, if◌then◌else◌, [], ◌∷◌, Option, Some, is_some, IfSome}
+use Rattle.std.specs.Prelude.{◌≡◌, ℕ, ◌+◌, Bool, true, bit_or, if◌then◌else◌, [], ◌∷◌, Option, Some, None, is_some, IfSome}
 use Rattle.uring_base.specs.FlagBits.{bits_in}
 use Rattle.uring_base.specs.declared.flags.TheConstants.Flags.{IO_DRAIN, IO_LINK, IO_HARDLINK}
 use Rattle.uring_base.specs.declared.squeue.Entry.{Entry}
@@ -7,9 +7,11 @@ use Rattle.ring_traits.specs.Lists.{Lists, Becomes, small}
 use Rattle.uring_model.specs.declared.jobs.JobKind.{JobKind}
 use Rattle.uring_model.specs.declared.jobs.Link.{Link}
 use Rattle.uring_model.specs.declared.jobs.Link.TheVariants.{Free, Soft, Hard}
+use Rattle.rent_engine.specs.Engines.{posting}
 use Rattle.rent_engine.specs.declared.ops.OpPoll.{OpPoll}
 use Rattle.rent_engine.specs.declared.ops.OpPoll.TheVariants as polls
-use Rattle.rent_engine.specs.Ops.{Ops, done_at, knows, started, polled, taken_out}
+use Rattle.rent_table.specs.Ops.{Ops, done_at, knows, started, taken_out}
+use Rattle.rent_engine.specs.Ops.{polled}
 use Rattle.run_loop.specs.Entries.{job_words, job_loan}
 use Rattle.run_loop.specs.Rounds.{pushed_more}
 use Rattle.run_loop.specs.Flights.{outcome_polled}
@@ -29,16 +31,16 @@ link_bit Hard = bits_in IO_HARDLINK
 abbrev pub mark_bits : Bool → Link → ℕ
 mark_bits drain link = bit_or (if drain then bits_in IO_DRAIN else 0) (link_bit link)
 
--- the entry of job n with these flags added
+-- the entry of job n with these flags added, as an engine starts it
 abbrev pub with_marks : ℕ → JobKind → ℕ → Entry
-with_marks n kind bits = record (job_words n kind) { flags = bit_or (job_words n kind).flags bits; user_data = n }
+with_marks n kind bits = record (job_words n kind) { flags = posting (bit_or (job_words n kind).flags bits); user_data = n }
 
 -- The job's entry was offered under its number, with its buffer lent, and its operation is in flight.
 pub record IsBegun {R : Type 0} (lists : R → Option Lists) (room waiting : R → ℕ) (n : ℕ) (kind : JobKind) (bits : ℕ) (before after : R) (ops ops' : Ops) (op : JobOp) : Type 0 where
   pub told : Becomes (lists before) (pushed_more (small (with_marks n kind bits) (job_loan n kind) ∷ [])) (lists after)
   pub places : room before ≡ room after + 1
   pub seen : waiting after ≡ waiting before
-  pub operations : ops' ≡ started n (lends (reply_for kind)) ops
+  pub operations : ops' ≡ started n (lends (reply_for kind)) None ops
   pub key : key_of op ≡ Some n
   pub reply : reply_of op ≡ reply_for kind
 

@@ -28,7 +28,8 @@ pub struct JobTable {
 impl JobTable {
     ghost use Rattle.std.specs.Prelude.{◌≡◌, ◌+◌, ◌<◌, ◌↔◌, ◌++◌, ◌∷◌, [], IsTrue, IfOk, OnOk, IfSome, Some, ℕ, map, slice_get, slice_set};
     ghost use Rattle.std.specs.List.{AllByRecursion};
-    ghost use Rattle.rent_engine.specs.Ops.{done_at, polled, taken_out};
+    ghost use Rattle.rent_table.specs.Ops.{done_at, taken_out};
+    ghost use Rattle.rent_engine.specs.Ops.{polled};
     ghost use Rattle.run_loop.specs.Slots.{open_slots};
     ghost use Rattle.run_loop.specs.Flights.{AreOperated, NoneResolved, all_polled, with_polled, left_by, jobs_in_flight, AreReplied};
     ghost use Rattle.run_loop.specs.JobOps.{key_of, reply_of};

@@ -5,7 +5,7 @@ ghost use Rattle.uring_base.specs.FlagBits.{bits_in};
 ghost use Rattle.uring_model.specs.declared.jobs.JobKind.{JobKind};
 ghost use Rattle.uring_model.specs.Jobs.{model_job, is_valid_job, is_valid_at};
 ghost use Rattle.ring_traits.specs.Lists.{Becomes, small};
-ghost use Rattle.rent_engine.specs.Ops.{knows, started};
+ghost use Rattle.rent_table.specs.Ops.{knows, started};
 ghost use Rattle.run_loop.specs.Entries.{job_words, job_loan, job_entry, offer_of};
 ghost use Rattle.run_loop.specs.Rounds.{pushed_more};
 ghost use Rattle.run_loop.specs.Steps.{mark_bits, IsBegun};

@@ -1,3 +1,4 @@
+use crate::tests::quiet_ends::quiet_under;
 use bitflags::Flags as _;
 use partner_traits::Seedable;
 use rent_engine::{
@@ -16,7 +17,7 @@ use uring_ops_file::{Nop, Read};
 use uring_partner::MemoryPartner;
 use uring_ring::{IoUring, SetupError};
 
-fn engine_of(alloc: Global, entries: u32) -> Result<Engine<IoUring>, SetupError> {
+pub fn engine_of(alloc: Global, entries: u32) -> Result<Engine<IoUring>, SetupError> {
     let ring = IoUring::new(alloc, entries)?;
     let params = *ring.params();
     Ok(Engine::new(alloc, ring, params))
@@ -27,7 +28,7 @@ fn read_of(len: u32, offset: u64) -> Entry {
     Read::new(Fixed(3), 0, len).offset(offset).build()
 }
 
-fn nop_under<R: UserEnds>(
+pub fn nop_under<R: UserEnds>(
     alloc: Global,
     engine: &mut Engine<R>,
     number: u64,
@@ -35,7 +36,7 @@ fn nop_under<R: UserEnds>(
     engine.start(alloc, number, Nop::new().build(), 0, None)
 }
 
-fn completion(number: u64, flags: u32, loan: Option<Loan>) -> Completion {
+pub fn completion(number: u64, flags: u32, loan: Option<Loan>) -> Completion {
     Completion {
         user_data: number,
         result: 7,
@@ -64,7 +65,7 @@ fn assert_stranger<R: UserEnds>(rt: &impl Abort, engine: &mut Engine<R>, strange
 }
 
 /// Asserts that the operation was started and is resolved with this result.
-fn assert_resolved<R: UserEnds>(
+pub fn assert_resolved<R: UserEnds>(
     rt: &impl Abort,
     engine: &mut Engine<R>,
     started: Result<OpKey, StartFault>,
@@ -88,6 +89,7 @@ fn assert_bytes(rt: &impl Abort, answer: OneAnswer, bytes: &[u8]) {
                 result: _,
                 flags: _,
                 buf,
+                quiet: _,
             } = done;
             match buf {
                 Some(buf) => assert_eq!(rt; buf.as_slice(), bytes),
@@ -108,6 +110,7 @@ fn each_call_of_the_engine(rt: HostRuntime) -> Result<(), Fail> {
     let mut partner = MemoryPartner::new(alloc);
     assert!(rt; nop_under(alloc, &mut engine, 5).is_ok());
     assert!(rt; engine.pump(alloc).is_ok());
+    assert!(rt; engine.reserve(alloc, 3).is_ok());
     assert!(rt; engine.turn(alloc, &mut partner).is_ok());
     assert!(rt; engine.cancel(alloc, 5, 6).is_ok());
     let mut op = OneOp::new(Nop::new().build(), None);
@@ -115,6 +118,7 @@ fn each_call_of_the_engine(rt: HostRuntime) -> Result<(), Fail> {
     assert!(rt; engine.turn(alloc, &mut partner).is_ok());
     assert!(rt; matches!(op.poll(alloc, &mut engine), Poll::Ready(OneAnswer::Done(_))));
     assert!(rt; op.is_done());
+    assert!(rt; quiet_under(alloc, &mut engine, 9, 10).is_ok());
     Ok(())
 }
 

@@ -1,5 +1,5 @@
 use Rattle.std.proofs.Common.{sym, ◌∙◌}
-use Rattle.rent_engine.specs.Ops.{flight_at, done_at}
+use Rattle.rent_table.specs.Ops.{flight_at, done_at}
 use Rattle.rent_fs.specs.Outputs.{moved}
 use Rattle.run_loop.proofs.PollLemmas.{asked, same_lists, same_room, moved_tells}
 use Rattle.run_loop.proofs.polls.poll_write.Goals as goal

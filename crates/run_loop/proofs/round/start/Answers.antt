@@ -1,5 +1,5 @@
-use Rattle.std.proofs.Common.{ap, ◌∙◌}
-use Rattle.rent_engine.specs.Ops.{started}
+use Rattle.std.proofs.Common.{None, ap, ◌∙◌}
+use Rattle.rent_table.specs.Ops.{started}
 use Rattle.run_loop.specs.Entries.{offer_of}
 use Rattle.run_loop.specs.Told.{reply_for, lends}
 use Rattle.run_loop.specs.Flights.{jobs_in_flight}
@@ -11,4 +11,4 @@ returns-in-Ok-clause-operated g c =
     let d = c.in-Ok.ensures in
     (started_next c.args.engine.now.ops c.args.table.now.started c.args.table.now.slots.items (jobs_in_flight c.args.table.now.in_flight.items) (offer_of c.args.next.number c.args.next.job) c.requires.operated c.requires.none c.requires.ahead
     c.start_job.new.engine.ops c.start.new.self.started c.start.new.self.slots.items (jobs_in_flight c.start.new.self.in_flight.items)
-    (c.in_ok-op.ensures.begun.operations ∙ ap (λ n. started n (lends (reply_for c.args.next.job.kind)) c.args.engine.now.ops) c.requires.ahead.number) d.started d.slots d.in_flight).0
+    (c.in_ok-op.ensures.begun.operations ∙ ap (λ n. started n (lends (reply_for c.args.next.job.kind)) None c.args.engine.now.ops) c.requires.ahead.number) d.started d.slots d.in_flight).0

@@ -1,5 +1,5 @@
 use Rattle.std.proofs.Common.{◌≡◌, [], sym, subst, true, is_some}
-use Rattle.rent_engine.specs.Ops.{flight_at}
+use Rattle.rent_table.specs.Ops.{flight_at}
 use Rattle.rent_engine.proofs.OneOps.{Offered-none, held, refused, lacking, started-kept, started-there}
 use Rattle.rent_engine.proofs.one_op.OneOp.begin.Goals as goal
 

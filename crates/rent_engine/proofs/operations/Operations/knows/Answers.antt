@@ -1,7 +1,0 @@
-use Rattle.std.proofs.Common.{ap, ◌∙◌}
-use Rattle.rent_engine.specs.Ops.{knows}
-use Rattle.rent_engine.proofs.Parts.{knows-at}
-use Rattle.rent_engine.proofs.operations.Operations.knows.Goals as goal
-
-pub returns : goal.returns
-returns c = c.contains.ensures ∙ knows-at c.self.inside.table.entries c.args.number ∙ ap (λ k. knows k.ops c.args.number) c.self.view_is
