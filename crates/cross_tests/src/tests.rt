@@ -4,3 +4,4 @@ mod partners;
 mod runs;
 mod scripts;
 mod submits;
+mod whole_buffers;

@@ -4,3 +4,4 @@ pub mod Parts
 pub mod Pumping
 pub mod OneOps
 pub mod Staying
+pub mod PlanLemmas
