@@ -4,7 +4,7 @@ use Rattle.uring_base.specs.declared.events.Taken.{Taken}
 use Rattle.rent_engine.specs.declared.ops.OpPoll.{OpPoll}
 use Rattle.rent_engine.specs.declared.ops.OpPoll.TheVariants as polls
 use Rattle.rent_engine.specs.declared.state.Poll.{Poll}
-use Rattle.rent_engine.specs.declared.state.Poll.TheVariants.{Ready, Pending}
+use Rattle.rent_engine.specs.declared.state.Poll.TheVariants.{Ready}
 use Rattle.rent_engine.specs.declared.one_op.Stage.{Stage}
 use Rattle.rent_engine.specs.declared.one_op.Stage.TheVariants.{Offers, Waits, Over}
 use Rattle.rent_engine.specs.declared.one_op.OneAnswer.{OneAnswer}

@@ -1,5 +1,5 @@
 -- A whole buffer is moved exactly where its answers add up.
-use Rattle.std.proofs.Common.{◌≡◌, ℕ, zero, suc, ◌+◌, ◌-◌, ◌<◌, ◌≤◌, ◌==◌, ◌&&◌, Bool, true, false, cond, T, List, [], ◌∷◌, ◌++◌, refl, sym, ap, ◌∙◌, subst, arith, eqb-true, add-zero}
+use Rattle.std.proofs.Common.{◌≡◌, ℕ, ◌+◌, ◌-◌, ◌≤◌, ◌==◌, ◌&&◌, Bool, true, false, cond, T, List, [], ◌∷◌, ◌++◌, refl, sym, ap, ◌∙◌, subst, arith, eqb-true, add-zero}
 use Rattle.std.specs.Prelude.{ℤ, pos, negsuc, nat_lt, sum_by}
 use Rattle.std.specs.List.{AllByRecursion, fold}
 use Rattle.std.specs.Int.{w32, cast_unsigned}
@@ -7,13 +7,11 @@ use Rattle.std.proofs.lemmas.Bool.Decides.{nat_tests}
 use Rattle.uring_base.specs.declared.errno.TheConstants.{EINTR}
 use Rattle.std.proofs.lemmas.List.Sums.{sum_by-cons}
 use Rattle.rent_fs.specs.declared.answers.TheConstants.{MAX_BREAKS}
-use Rattle.rent_fs.specs.declared.answers.Left.{Left}
-use Rattle.rent_fs.specs.declared.answers.Progress.{Progress}
 use Rattle.rent_fs.specs.declared.answers.Progress.TheVariants.{Going, Whole, Failed}
 use Rattle.rent_fs.specs.declared.answers.WholeFault.{WholeFault}
 use Rattle.rent_fs.specs.declared.answers.WholeFault.TheVariants.{Os, Nothing, Interrupted, BadCount}
-use Rattle.rent_fs.specs.WholeBuffer.{Answer, going, after_answer, after_result, after_count, after_error, after_break, progress_of}
-use Rattle.rent_fs.specs.Laws.{bytes_in, breaks_in, is_good, AddsUp, IsWholeExactly}
+use Rattle.rent_fs.specs.WholeBuffer.{Answer, going, after_answer, after_result, progress_of}
+use Rattle.rent_fs.specs.Laws.{bytes_in, breaks_in, is_good, IsWholeExactly}
 
 -- what ends stays so
 stays_failed : (len : ℕ) (fault : WholeFault) (answers : List Answer) → fold (after_answer len) (Failed fault) answers ≡ Failed fault

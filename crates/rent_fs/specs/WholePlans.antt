@@ -1,5 +1,5 @@
 -- States that move whole buffers.
-use Rattle.std.specs.Prelude.{◌≡◌, ℕ, ◌+◌, ◌-◌, ◌==◌, if◌then◌else◌, List, [], length, ℤ, Option, Some, None, Result, Ok, Err}
+use Rattle.std.specs.Prelude.{◌≡◌, ℕ, ◌-◌, ◌==◌, if◌then◌else◌, List, [], length, ℤ, Option, Some, None, Result, Ok, Err}
 use Rattle.uring_base.specs.declared.squeue.Entry.{Entry}
 use Rattle.rent_engine.specs.declared.one_op.Request.{Request}
 use Rattle.rent_engine.specs.declared.one_op.Stage.TheVariants.{Offers, Over}
