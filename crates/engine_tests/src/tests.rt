@@ -5,3 +5,4 @@ mod kept_steps;
 mod numbers;
 mod operations;
 mod quiet_ends;
+mod whole_buffers;

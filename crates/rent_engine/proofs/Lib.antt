@@ -4,3 +4,4 @@ pub mod Runs
 pub mod OneOps
 pub mod Staying
 pub mod Canceling
+pub mod PlanLemmas

@@ -1,5 +1,5 @@
 -- The polls of one operation.
-use Rattle.std.proofs.Common.{◌≡◌, ℕ, Bool, true, false, cond, List, [], Option, Some, None, is_some, inl, inr, refl, ap, sym, ◌∙◌, subst, append-nil, add-zero, eq-eqb}
+use Rattle.std.proofs.Common.{◌≡◌, ℕ, Bool, true, false, cond, List, [], Option, Some, None, is_some, is_none, IfSome, inl, inr, refl, ap, sym, ◌∙◌, subst, append-nil, add-zero, eq-eqb}
 use Rattle.std.specs.Ordering.{nat_cmp, eq_by_cmp}
 use Rattle.std.specs.Cmp.{nat_cmp_total, unsigned_tied}
 use Rattle.std.specs.FinMap.{get-insert}
@@ -30,15 +30,24 @@ Offered-none used lists room waiting used_none ring after e = record {
   seen = ap waiting e;
 }
 
+-- a number that was given is the operation's
+unknown_given : (given : Option ℕ) (ops : Ops) (n : ℕ) → IsItsNumber given ops n → false ≡ knows ops n → IfSome given (λ m. knows ops m ≡ false)
+unknown_given None ops n its unknown = tt
+unknown_given (Some m) ops n its unknown = ap (knows ops) (sym its) ∙ sym unknown
+
+pub none_given : (given : Option ℕ) (ops : Ops) → is_none given ≡ true → IfSome given (λ m. knows ops m ≡ false)
+none_given None ops none = tt
+none_given (Some m) ops none = absurd cc
+
 module _ (request : Request) (n : ℕ) (ops after : Ops) (buf : Option Buf) (its : IsItsNumber request.number ops n) (same : after ≡ ops) (back : buf ≡ request.buf) where
   pub held : false ≡ knows ops n → OneStep (Offers request) ops [] Pending after (Offers (record request { buf = buf }))
-  held unknown = (n, its, inr (inl (record { unknown = sym unknown; entries = refl; operations = same; gives = refl; next = ap (λ b. Offers (record request { buf = b })) back })))
+  held unknown = inl (record { unknown = unknown_given request.number ops n its unknown; entries = refl; operations = same; gives = refl; next = ap (λ b. Offers (record request { buf = b })) back })
 
   pub refused : (stage : Stage) → true ≡ knows ops n → stage ≡ Over → OneStep (Offers request) ops [] (Ready (InUse buf)) after stage
-  refused stage known over = (n, its, inr (inr (inl (record { known = sym known; entries = refl; operations = same; gives = ap (λ b. Ready (InUse b)) back; next = over }))))
+  refused stage known over = inr (n, its, inr (inl (record { known = sym known; entries = refl; operations = same; gives = ap (λ b. Ready (InUse b)) back; next = over })))
 
   pub lacking : (stage : Stage) → false ≡ knows ops n → stage ≡ Over → OneStep (Offers request) ops [] (Ready (NoMemory buf)) after stage
-  lacking stage unknown over = (n, its, inr (inr (inr (record { unknown = sym unknown; entries = refl; operations = same; gives = ap (λ b. Ready (NoMemory b)) back; next = over }))))
+  lacking stage unknown over = inr (n, its, inr (inr (record { unknown = sym unknown; entries = refl; operations = same; gives = ap (λ b. Ready (NoMemory b)) back; next = over })))
 
 pub started-kept : (n : ℕ) (lent : Bool) (ops after : Ops) → after ≡ started n lent None ops → KeepsInFlight ops after
 started-kept n lent ops after is = λ q there. ap (λ o. is_some (flight_at o q)) is ∙ ap is_some (get-insert nat_cmp_total ops.in_flight n _ q)

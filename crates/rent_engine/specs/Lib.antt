@@ -5,5 +5,6 @@ pub mod Handles
 pub mod Laws
 pub mod OneOp
 pub mod Ops
+pub mod Plans
 pub mod States
 pub mod Turns

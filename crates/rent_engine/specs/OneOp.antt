@@ -1,5 +1,5 @@
 -- One operation, from its request to its result.
-use Rattle.std.specs.Prelude.{◌≡◌, ℕ, ◌<◌, Bool, true, false, bit_or, List, [], ◌∷◌, Option, Some, None, is_some, ◌⊎◌}
+use Rattle.std.specs.Prelude.{◌≡◌, ℕ, ◌<◌, ◌≤◌, Bool, true, false, bit_or, List, [], ◌∷◌, length, Option, Some, None, is_some, IfSome, ◌⊎◌}
 use Rattle.uring_base.specs.declared.squeue.Entry.{Entry}
 use Rattle.uring_base.specs.declared.buffer.Buf.{Buf}
 use Rattle.uring_base.specs.declared.events.Taken.{Taken}
@@ -42,6 +42,15 @@ flagged bits (Offers request) = Offers (record request { entry = record request.
 flagged bits (Waits key) = Waits key
 flagged bits Over = Over
 
+-- it acts from a place within its buffer on
+abbrev pub IsPlaced : Request → Type 0
+IsPlaced request = IfSome request.buf (λ buf. request.from ≤ length buf)
+
+abbrev pub StageIsPlaced : Stage → Type 0
+StageIsPlaced (Offers request) = IsPlaced request
+StageIsPlaced (Waits key) = Unit {0}
+StageIsPlaced Over = Unit {0}
+
 -- the number that was given, or the least that the engine doesn't know
 abbrev pub IsItsNumber : Option ℕ → Ops → ℕ → Type 0
 IsItsNumber (Some given) ops n = n ≡ given
@@ -53,7 +62,7 @@ addressed n None entry = entry
 addressed n (Some buf) entry = record entry { addr = n }
 
 abbrev pub request_entry : Request → ℕ → Taken
-request_entry request n = offered_entry n (addressed n request.buf request.entry) 0 request.buf
+request_entry request n = offered_entry n (addressed n request.buf request.entry) request.from request.buf
 
 -- it was started
 pub record Begins (request : Request) (n : ℕ) (ops : Ops) (ts : List Taken) (answer : Poll OneAnswer) (after : Ops) (stage : Stage) : Type 0 where
@@ -63,9 +72,9 @@ pub record Begins (request : Request) (n : ℕ) (ops : Ops) (ts : List Taken) (a
   pub gives : answer ≡ Pending
   pub next : stage ≡ Waits n
 
--- the ring was full
-pub record IsHeld (request : Request) (n : ℕ) (ops : Ops) (ts : List Taken) (answer : Poll OneAnswer) (after : Ops) (stage : Stage) : Type 0 where
-  pub unknown : knows ops n ≡ false
+-- The ring was full. A number that was given is in no use; where none was, none was looked for.
+pub record IsHeld (request : Request) (ops : Ops) (ts : List Taken) (answer : Poll OneAnswer) (after : Ops) (stage : Stage) : Type 0 where
+  pub unknown : IfSome request.number (λ n. knows ops n ≡ false)
   pub entries : ts ≡ []
   pub operations : after ≡ ops
   pub gives : answer ≡ Pending
@@ -107,8 +116,8 @@ pub record IsAskedFor (key : ℕ) (ops : Ops) (ts : List Taken) (answer : Poll O
 -- one poll
 abbrev pub OneStep : Stage → Ops → List Taken → Poll OneAnswer → Ops → Stage → Type 0
 OneStep (Offers request) ops ts answer after stage =
-    (n : ℕ) × IsItsNumber request.number ops n
-    × (Begins request n ops ts answer after stage ⊎ (IsHeld request n ops ts answer after stage ⊎ (IsRefused request n ops ts answer after stage ⊎ IsLacking request n ops ts answer after stage)))
+    IsHeld request ops ts answer after stage
+    ⊎ ((n : ℕ) × IsItsNumber request.number ops n × (Begins request n ops ts answer after stage ⊎ (IsRefused request n ops ts answer after stage ⊎ IsLacking request n ops ts answer after stage)))
 OneStep (Waits key) ops ts answer after stage = IsAskedFor key ops ts answer after stage
 OneStep Over ops ts answer after stage = ⊥
 

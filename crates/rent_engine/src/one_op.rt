@@ -4,7 +4,7 @@ ghost use Rattle.std.specs.Prelude.{◌≡◌, ◌+◌, ◌≤◌, ℕ, not, fal
 ghost use Rattle.uring_base.specs.declared.events.Taken.{Taken};
 ghost use Rattle.uring_base.specs.FlagBits.{bits_in};
 ghost use Rattle.rent_engine.specs.Engines.{Offered};
-ghost use Rattle.rent_engine.specs.OneOp.{addressed, numbered, flagged, stage_key, stage_offers, stage_over, IsItsNumber, OneStep};
+ghost use Rattle.rent_engine.specs.OneOp.{addressed, numbered, flagged, stage_key, stage_offers, stage_over, IsItsNumber, IsPlaced, OneStep};
 ghost use Rattle.rent_engine.specs.States.{is_pending, waits_on, KeepsInFlight};
 
 use crate::engine::Engine;
@@ -25,6 +25,8 @@ use uring_base::squeue::{Entry, Flags};
 pub struct Request {
     pub number: Option<u64>,
     pub entry: Entry,
+    /// The place in the buffer from which the operation acts, at most the buffer's length.
+    pub from: u32,
     pub buf: Option<Buf>,
 }
 
@@ -57,23 +59,42 @@ pub struct OneOp {
 
 impl Model for OneOp {
     ghost use Rattle.rent_engine.specs.declared.one_op.Stage.{Stage};
+    ghost use Rattle.rent_engine.specs.OneOp.{StageIsPlaced};
 
     ghost Value = { Stage };
 
     ghost view = { λ op. op.stage };
+
+    ghost invariant = { λ op. StageIsPlaced op.stage };
 }
 
 impl OneOp {
+    /// The operation acts from the front of its buffer on.
     pub fn new(entry: Entry, buf: Option<Buf>) -> OneOp
-        ensures { result ≡ Stage.Offers (record { number = None; entry = entry; buf = buf }) }
+        ensures { result ≡ Stage.Offers (record { number = None; entry = entry; from = 0; buf = buf }) }
+    {
+        OneOp::of_request(Request {
+            number: None,
+            entry,
+            from: 0,
+            buf,
+        })
+    }
+
+    pub fn of_request(request: Request) -> OneOp
+        requires { IsPlaced request }
+        ensures { result ≡ Stage.Offers request }
     {
         OneOp {
-            stage: Stage::Offers(Request {
-                number: None,
-                entry,
-                buf,
-            }),
+            stage: Stage::Offers(request),
         }
+    }
+
+    /// One that is over.
+    pub(crate) fn over() -> OneOp
+        ensures { result ≡ Stage.Over }
+    {
+        OneOp { stage: Stage::Over }
     }
 
     /// The same under that number, where it is still to be offered.
@@ -81,17 +102,10 @@ impl OneOp {
         ensures { result ≡ numbered number self }
     {
         match self.stage {
-            Stage::Offers(
-                Request {
-                    number: _,
-                    entry,
-                    buf,
-                },
-            ) => OneOp {
+            Stage::Offers(request) => OneOp {
                 stage: Stage::Offers(Request {
                     number: Some(number),
-                    entry,
-                    buf,
+                    ..request
                 }),
             },
             stage => OneOp { stage },
@@ -103,11 +117,10 @@ impl OneOp {
         ensures { result ≡ flagged (bits_in flags) self }
     {
         match self.stage {
-            Stage::Offers(Request { number, entry, buf }) => OneOp {
+            Stage::Offers(request) => OneOp {
                 stage: Stage::Offers(Request {
-                    number,
-                    entry: entry.flags(flags),
-                    buf,
+                    entry: request.entry.flags(flags),
+                    ..request
                 }),
             },
             stage => OneOp { stage },
@@ -120,7 +133,8 @@ impl OneOp {
         engine: &mut Engine<R>,
         request: Request,
     ) -> Poll<OneAnswer>
-        requires { self.old ≡ Stage.Over }
+        requires over { self.old ≡ Stage.Over }
+        requires placed { IsPlaced request }
         ensures polls { (ts : List Taken) × Offered R.used R.lists R.room R.waiting engine.old.ring ts engine.new.ring
             × OneStep (Stage.Offers request) engine.old.ops ts result engine.new.ops self.new }
         ensures pending { is_pending result ≡ waits_on (stage_key self.new) (stage_offers self.new) engine.new.ops (R.room engine.new.ring) }
@@ -129,15 +143,21 @@ impl OneOp {
         ensures free { R.room engine.new.ring ≤ R.room engine.old.ring }
         ensures spare { engine.old.spare ≤ engine.new.spare + 1 }
         ensures params { engine.new.params ≡ engine.old.params }
+        ensures ready { is_pending result ≡ false → (engine.new.ring ≡ engine.old.ring) × (engine.old.spare ≤ engine.new.spare) }
     {
+        if request.number.is_none() && engine.free() == 0 {
+            self.stage = Stage::Offers(request);
+            return Poll::Pending;
+        }
         let Request {
             number: given,
             entry,
+            from,
             buf,
         } = request;
         let number = its_number(given, engine);
         let addressed_entry = addressed(entry, number, &buf);
-        match engine.start(alloc, number, addressed_entry, 0, buf) {
+        match engine.start(alloc, number, addressed_entry, from, buf) {
             Ok(key) => {
                 self.stage = Stage::Waits(key);
                 Poll::Pending
@@ -146,6 +166,7 @@ impl OneOp {
                 self.stage = Stage::Offers(Request {
                     number: given,
                     entry,
+                    from,
                     buf,
                 });
                 Poll::Pending
@@ -165,6 +186,7 @@ impl OneOp {
         ensures free { R.room engine.new.ring ≤ R.room engine.old.ring }
         ensures spare { engine.old.spare ≤ engine.new.spare + 1 }
         ensures params { engine.new.params ≡ engine.old.params }
+        ensures ready { is_pending result ≡ false → (engine.new.ring ≡ engine.old.ring) × (engine.old.spare ≤ engine.new.spare) }
     {
         match engine.poll(key) {
             OpPoll::Pending(key) => {
@@ -178,8 +200,6 @@ impl OneOp {
 }
 
 impl OpState for OneOp {
-    ghost use Rattle.rent_engine.specs.OneOp.{stage_key, stage_offers, stage_over, OneStep};
-
     type Output = OneAnswer;
 
     ghost key = { stage_key };
@@ -190,7 +210,19 @@ impl OpState for OneOp {
 
     ghost polls = { OneStep };
 
-    fn poll<R: UserEnds>(&mut self, alloc: Global, engine: &mut Engine<R>) -> Poll<OneAnswer> {
+    fn poll<R: UserEnds>(&mut self, alloc: Global, engine: &mut Engine<R>) -> Poll<OneAnswer>
+        requires { stage_over self.old ≡ false }
+        ensures polls { (ts : List Taken) × Offered R.used R.lists R.room R.waiting engine.old.ring ts engine.new.ring
+            × OneStep self.old engine.old.ops ts result engine.new.ops self.new }
+        ensures pending { is_pending result ≡ waits_on (stage_key self.new) (stage_offers self.new) engine.new.ops (R.room engine.new.ring) }
+        ensures done { stage_over self.new ≡ not (is_pending result) }
+        ensures in_flight { KeepsInFlight engine.old.ops engine.new.ops }
+        ensures free { R.room engine.new.ring ≤ R.room engine.old.ring }
+        ensures spare { engine.old.spare ≤ engine.new.spare + 1 }
+        ensures params { engine.new.params ≡ engine.old.params }
+        // A poll that is done does nothing to the ring.
+        ensures ready { is_pending result ≡ false → (engine.new.ring ≡ engine.old.ring) × (engine.old.spare ≤ engine.new.spare) }
+    {
         match mem::replace(&mut self.stage, Stage::Over) {
             Stage::Offers(request) => self.begin(alloc, engine, request),
             Stage::Waits(key) => self.look(engine, key),

@@ -1,13 +1,15 @@
 //! Files by number.
 
-ghost use Rattle.std.specs.Prelude.{◌≡◌, ◌+◌, ◌^◌, ◌<◌, ◌≤◌, ℕ, None, Some, length};
+ghost use Rattle.std.specs.Prelude.{◌≡◌, ◌+◌, ◌-◌, ◌^◌, ◌<◌, ◌≤◌, ℕ, None, Some, length};
 ghost use Rattle.uring_base.specs.declared.limits.TheConstants.{MAX_BUFFER};
 ghost use Rattle.rent_engine.specs.declared.one_op.Stage.TheVariants.{Offers};
 ghost use Rattle.rent_engine.specs.OneOp.{addressed};
 ghost use Rattle.rent_fs.specs.Entries.{no_flags, read_entry, sync_entry, write_entry};
 
 use crate::read_at::{ReadAt, read_at};
+use crate::read_exact_at::{ReadExactAt, read_exact_at};
 use crate::syncs::{Sync, sync_all, sync_data};
+use crate::write_all_at::{WriteAllAt, write_all_at};
 use crate::write_at::{WriteAt, write_at};
 use uring_base::Buf;
 use uring_base::types::FsyncFlags;
@@ -20,6 +22,8 @@ pub struct File {
 
 impl File {
     ghost use Rattle.rent_fs.specs.Files.{file_number};
+    ghost use Rattle.rent_fs.specs.Transfers.{rest_read, rest_write, whole_read, whole_write};
+    ghost use Rattle.rent_fs.specs.WholePlans.{begun};
 
     /// The file under that number.
     pub fn of_number(number: u32) -> File
@@ -40,7 +44,7 @@ impl File {
     pub fn read_at(&self, buf: Buf, pos: u64) -> ReadAt
         requires small { length buf ≤ MAX_BUFFER }
         requires fits { pos + length buf < 2 ^ 64 }
-        ensures offers { result ≡ Offers (record { number = None; entry = read_entry (file_number self.now) 0 (length buf) pos; buf = Some buf }) }
+        ensures offers { result.op ≡ Offers (record { number = None; entry = read_entry (file_number self.now) 0 (length buf) pos; from = 0; buf = Some buf }) }
         ensures entry { (n : ℕ) → addressed n (Some buf) (read_entry (file_number self.now) 0 (length buf) pos) ≡ read_entry (file_number self.now) n (length buf) pos }
     {
         read_at(self.number, buf, pos)
@@ -51,16 +55,36 @@ impl File {
     pub fn write_at(&self, buf: Buf, pos: u64) -> WriteAt
         requires small { length buf ≤ MAX_BUFFER }
         requires fits { pos + length buf < 2 ^ 64 }
-        ensures offers { result ≡ Offers (record { number = None; entry = write_entry (file_number self.now) 0 (length buf) pos; buf = Some buf }) }
+        ensures offers { result.op ≡ Offers (record { number = None; entry = write_entry (file_number self.now) 0 (length buf) pos; from = 0; buf = Some buf }) }
         ensures entry { (n : ℕ) → addressed n (Some buf) (write_entry (file_number self.now) 0 (length buf) pos) ≡ write_entry (file_number self.now) n (length buf) pos }
     {
         write_at(self.number, buf, pos)
     }
 
+    /// Reads from a position until the buffer is full. Nothing is asked for until the state is polled.
+    pub fn read_exact_at(&self, buf: Buf, pos: u64) -> ReadExactAt
+        requires small { length buf ≤ MAX_BUFFER }
+        requires fits { pos + length buf < 2 ^ 64 }
+        ensures begins { result ≡ begun rest_read (whole_read (file_number self.now) pos buf) buf }
+        ensures entries { (rest : ℕ) → rest ≤ length buf → rest_read (whole_read (file_number self.now) pos buf) rest ≡ read_entry (file_number self.now) 0 rest (pos + (length buf - rest)) }
+    {
+        read_exact_at(self.number, buf, pos)
+    }
+
+    /// Writes a buffer at a position until all of it is written. Nothing is asked for until the state is polled.
+    pub fn write_all_at(&self, buf: Buf, pos: u64) -> WriteAllAt
+        requires small { length buf ≤ MAX_BUFFER }
+        requires fits { pos + length buf < 2 ^ 64 }
+        ensures begins { result ≡ begun rest_write (whole_write (file_number self.now) pos buf) buf }
+        ensures entries { (rest : ℕ) → rest ≤ length buf → rest_write (whole_write (file_number self.now) pos buf) rest ≡ write_entry (file_number self.now) 0 rest (pos + (length buf - rest)) }
+    {
+        write_all_at(self.number, buf, pos)
+    }
+
     /// Brings all that belongs to the file to its device, as `fsync` does. Nothing is asked for
     /// until the state is polled.
     pub fn sync_all(&self) -> Sync
-        ensures { result ≡ Offers (record { number = None; entry = sync_entry (file_number self.now) no_flags; buf = None }) }
+        ensures { result.op ≡ Offers (record { number = None; entry = sync_entry (file_number self.now) no_flags; from = 0; buf = None }) }
     {
         sync_all(self.number)
     }
@@ -68,7 +92,7 @@ impl File {
     /// Brings the file's bytes to its device, and of what describes it only what is needed to read
     /// them back, as `fdatasync` does. Nothing is asked for until the state is polled.
     pub fn sync_data(&self) -> Sync
-        ensures { result ≡ Offers (record { number = None; entry = sync_entry (file_number self.now) FsyncFlags.DATASYNC; buf = None }) }
+        ensures { result.op ≡ Offers (record { number = None; entry = sync_entry (file_number self.now) FsyncFlags.DATASYNC; from = 0; buf = None }) }
     {
         sync_data(self.number)
     }

@@ -20,7 +20,7 @@ fn count_of(code: i32) -> Result<usize, FsError>
     }
 }
 
-fn or_empty(alloc: Global, buf: Option<Buf>) -> Buf
+pub(crate) fn or_empty(alloc: Global, buf: Option<Buf>) -> Buf
     ensures { result ≡ or_empty buf }
 {
     match buf {

@@ -6,13 +6,13 @@ ghost use Rattle.rent_fs.specs.Entries.{no_flags, sync_entry};
 
 use crate::error::FsError;
 use crate::synced::synced;
-use rent_engine::{OneAnswer, Op, OpKind};
+use rent_engine::{OneAnswer, OpKind, SingleOp};
 use std::alloc::Global;
 use uring_base::types::{Fixed, FsyncFlags};
 use uring_ops_file::Fsync;
 
 /// A sync of a file. Its output is that it is done, or why it isn't.
-pub type Sync = Op<Syncing>;
+pub type Sync = SingleOp<Syncing>;
 
 /// What a sync gives.
 #[derive(Drop)]
@@ -23,26 +23,26 @@ impl OpKind for Syncing {
 
     type Output = Result<(), FsError>;
 
-    ghost gives = { synced };
+    ghost gives = { λ _. synced };
 
     ghost bounds = { IsSmallFault };
 
-    fn output(_alloc: Global, answer: OneAnswer) -> Result<(), FsError> {
+    fn output(&mut self, _alloc: Global, answer: OneAnswer) -> Result<(), FsError> {
         synced(answer)
     }
 }
 
 /// A sync of all that belongs to a file.
 pub(crate) fn sync_all(file: u32) -> Sync
-    ensures { result ≡ Offers (record { number = None; entry = sync_entry file no_flags; buf = None }) }
+    ensures { result.op ≡ Offers (record { number = None; entry = sync_entry file no_flags; from = 0; buf = None }) }
 {
-    Op::new(Fsync::new(Fixed(file)).build(), None)
+    SingleOp::new(Fsync::new(Fixed(file)).build(), None, Syncing)
 }
 
 /// A sync of a file's data.
 pub(crate) fn sync_data(file: u32) -> Sync
-    ensures { result ≡ Offers (record { number = None; entry = sync_entry file FsyncFlags.DATASYNC; buf = None }) }
+    ensures { result.op ≡ Offers (record { number = None; entry = sync_entry file FsyncFlags.DATASYNC; from = 0; buf = None }) }
 {
     let entry = Fsync::new(Fixed(file)).flags(FsyncFlags::DATASYNC).build();
-    Op::new(entry, None)
+    SingleOp::new(entry, None, Syncing)
 }

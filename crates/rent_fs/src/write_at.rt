@@ -7,14 +7,15 @@ ghost use Rattle.rent_fs.specs.Entries.{write_entry};
 
 use crate::error::FsError;
 use crate::moved::moved;
-use rent_engine::{OneAnswer, Op, OpKind};
+use rent_engine::{OneAnswer, OpKind, SingleOp};
 use std::alloc::Global;
 use uring_base::Buf;
+use uring_base::squeue::Entry;
 use uring_base::types::Fixed;
 use uring_ops_file::Write;
 
 /// A write at a position. Its output is the count, and the buffer as it came back.
-pub type WriteAt = Op<Writing>;
+pub type WriteAt = SingleOp<Writing>;
 
 /// What a write gives.
 #[derive(Drop)]
@@ -25,20 +26,26 @@ impl OpKind for Writing {
 
     type Output = (Result<usize, FsError>, Buf);
 
-    ghost gives = { moved };
+    ghost gives = { λ _. moved };
 
     ghost bounds = { HasSmallCount };
 
-    fn output(alloc: Global, answer: OneAnswer) -> (Result<usize, FsError>, Buf) {
+    fn output(&mut self, alloc: Global, answer: OneAnswer) -> (Result<usize, FsError>, Buf) {
         moved(alloc, answer)
     }
 }
 
+/// The entry of a write of so many bytes, at a position.
+pub(crate) fn write_entry(file: u32, len: u32, pos: u64) -> Entry
+    ensures { result ≡ write_entry file 0 len pos }
+{
+    Write::new(Fixed(file), 0, len).offset(pos).build()
+}
+
 pub(crate) fn write_at(file: u32, buf: Buf, pos: u64) -> WriteAt
     requires { length buf ≤ MAX_BUFFER }
-    ensures { result ≡ Offers (record { number = None; entry = write_entry file 0 (length buf) pos; buf = Some buf }) }
+    ensures { result.op ≡ Offers (record { number = None; entry = write_entry file 0 (length buf) pos; from = 0; buf = Some buf }) }
 {
     let len = buf.len() as u32;
-    let entry = Write::new(Fixed(file), 0, len).offset(pos).build();
-    Op::new(entry, Some(buf))
+    SingleOp::new(write_entry(file, len, pos), Some(buf), Writing)
 }

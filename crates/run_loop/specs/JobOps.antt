@@ -8,9 +8,9 @@ use Rattle.run_loop.specs.declared.slot.Reply.TheVariants.{Plain, Buffer, Succes
 
 -- the number under which it was started
 abbrev pub key_of : JobOp → Option ℕ
-key_of (ops.Read state) = stage_key state
-key_of (ops.Write state) = stage_key state
-key_of (ops.Sync state) = stage_key state
+key_of (ops.Read state) = stage_key state.op
+key_of (ops.Write state) = stage_key state.op
+key_of (ops.Sync state) = stage_key state.op
 key_of (ops.Plain key) = Some key
 
 -- what it tells of its end

@@ -9,7 +9,7 @@ pub returns-in-Ready : goal.returns-in-Ready
 returns-in-Ready g c n can =
     let ops = c.args.engine.now.ops in
     let p = c.poll.ensures.polls in
-    let a = asked moved c.args.write c.poll.new.self n ops c.poll.new.engine.ops p.0 c.poll.result can.key p.2 in
+    let a = asked moved c.args.write.op c.poll.new.self.op n ops c.poll.new.engine.ops p.0 c.poll.result can.key p.2 in
     record {
       told = same_lists _ _ p.0 a.0 p.1.told;
       places = same_room _ _ p.0 a.0 p.1.places;

@@ -22,7 +22,7 @@ returns-in-Err-KeyInUse-clause-polls g c =
     let e = c.in-Err-KeyInUse in (
       [],
       Offered-none g.R.UserEnds.used g.R.Rings.lists g.R.UserEnds.room g.R.UserEnds.waiting g.met.R.UserEnds.used_none _ _ e.ensures.unchanged.1,
-      refused c.args.request _ _ _ _ c.its_number-number.ensures e.ensures.unchanged.0 (rw e.field-0-is at e.ensures.back) _ (rw e.field-0-is at e.ensures.key_in_use) c.requires,
+      refused c.args.request _ _ _ _ c.its_number-number.ensures e.ensures.unchanged.0 (rw e.field-0-is at e.ensures.back) _ (rw e.field-0-is at e.ensures.key_in_use) c.requires.over,
     )
 
 pub returns-in-Err-NoMemory-clause-polls : goal.returns-in-Err-NoMemory-clause-polls
@@ -30,5 +30,5 @@ returns-in-Err-NoMemory-clause-polls g c =
     let e = c.in-Err-NoMemory in (
       [],
       Offered-none g.R.UserEnds.used g.R.Rings.lists g.R.UserEnds.room g.R.UserEnds.waiting g.met.R.UserEnds.used_none _ _ e.ensures.unchanged.1,
-      lacking c.args.request _ _ _ _ c.its_number-number.ensures e.ensures.unchanged.0 (rw e.field-0-is at e.ensures.back) _ (rw e.field-0-is at e.ensures.key_in_use) c.requires,
+      lacking c.args.request _ _ _ _ c.its_number-number.ensures e.ensures.unchanged.0 (rw e.field-0-is at e.ensures.back) _ (rw e.field-0-is at e.ensures.key_in_use) c.requires.over,
     )
