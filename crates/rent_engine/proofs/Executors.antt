@@ -11,7 +11,7 @@ use Rattle.std.proofs.lemmas.List.Folds.{list_all-append}
 use Rattle.uring_base.specs.declared.events.Taken.{Taken}
 use Rattle.rent_engine.specs.declared.state.Poll.{Poll}
 use Rattle.rent_engine.specs.declared.state.Poll.TheVariants.{Ready, Pending}
-use Rattle.rent_engine.specs.Ops.{Ops}
+use Rattle.rent_table.specs.Ops.{Ops}
 use Rattle.rent_engine.specs.States.{is_pending, waits_on, KeepsInFlight}
 use Rattle.rent_engine.specs.Executor.{Tasks, Scene, are_in_order, if_waiting, settled, task_waits, IsSound, PollsFirst, AllPolled, IsRound}
 

@@ -11,7 +11,8 @@ use Rattle.rent_engine.specs.declared.one_op.OneAnswer.{OneAnswer}
 use Rattle.rent_engine.specs.declared.sequences.PlanStep.{PlanStep}
 use Rattle.rent_engine.specs.declared.sequences.PlanStep.TheVariants.{Asks, Gives}
 use Rattle.rent_engine.specs.declared.sequences.Sequence.{Sequence}
-use Rattle.rent_engine.specs.Ops.{Ops, polled}
+use Rattle.rent_table.specs.Ops.{Ops}
+use Rattle.rent_engine.specs.Ops.{polled}
 use Rattle.rent_engine.specs.OneOp.{OneStep, answer_of, stage_after, stage_over}
 use Rattle.rent_engine.specs.Plans.{Followed, GoesBy, IsKept, PollsBy, SequencePolls}
 

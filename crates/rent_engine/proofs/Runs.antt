@@ -5,7 +5,7 @@ use Rattle.rent_engine.specs.declared.fault.EngineFault.{EngineFault}
 use Rattle.rent_engine.specs.declared.fault.EngineFault.TheVariants as engine
 use Rattle.rent_engine.specs.declared.ops.TurnReport.{TurnReport}
 use Rattle.rent_engine.specs.declared.executor.ExecFault.{ExecFault}
-use Rattle.rent_engine.specs.Ops.{Ops}
+use Rattle.rent_table.specs.Ops.{Ops}
 use Rattle.rent_engine.specs.Executor.{Scene, RunState, RoundAndTurn, Cycles, RunEnds, exec_fault_of}
 
 module _ {P R S O : Type 0} (IsRoundOf : Scene R S O → Scene R S O → Type 0) (turned : P → P → R → R → Ops → Ops → Result TurnReport EngineFault → Type 0) where

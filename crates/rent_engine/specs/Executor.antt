@@ -15,7 +15,7 @@ use Rattle.rent_engine.specs.declared.fault.EngineFault.TheVariants as engine
 use Rattle.rent_engine.specs.declared.ops.TurnReport.{TurnReport}
 use Rattle.rent_engine.specs.declared.executor.ExecFault.{ExecFault}
 use Rattle.rent_engine.specs.declared.executor.ExecFault.TheVariants.{Spent, Engine, NoMemory}
-use Rattle.rent_engine.specs.Ops.{Ops}
+use Rattle.rent_table.specs.Ops.{Ops}
 use Rattle.rent_engine.specs.Faults.{EngineFaultIsToldAs, is_engine_fault}
 use Rattle.rent_engine.specs.States.{is_pending, waits_on, KeepsInFlight}
 

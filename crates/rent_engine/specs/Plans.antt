@@ -12,7 +12,7 @@ use Rattle.rent_engine.specs.declared.one_op.OneAnswer.TheVariants.{Done, InUse,
 use Rattle.rent_engine.specs.declared.sequences.PlanStep.{PlanStep}
 use Rattle.rent_engine.specs.declared.sequences.PlanStep.TheVariants.{Asks, Gives}
 use Rattle.rent_engine.specs.declared.sequences.Sequence.{Sequence}
-use Rattle.rent_engine.specs.Ops.{Ops}
+use Rattle.rent_table.specs.Ops.{Ops}
 use Rattle.rent_engine.specs.OneOp.{OneStep, stage_over}
 
 -- the operation wasn't begun
