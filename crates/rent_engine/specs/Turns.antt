@@ -39,3 +39,7 @@ module _ {W : Type 0} (m : Machine W) {P R : Type 0} (log : P → Option (List L
       pub answer : Result ℕ SubmitError
       pub submitted : Submitted params old new before left answer
       pub ends : TurnEnds answer left after ops ops' steps steps' result
+
+    -- one turn, whatever steps were kept before it
+    abbrev pub HasTurned : Parameters → P → P → R → R → Ops → Ops → Result TurnReport EngineFault → Type 0
+    HasTurned params old new before after ops ops' result = (steps steps' : KeptSteps) × EngineTurned params old new before after ops ops' steps steps' result

@@ -8,7 +8,7 @@ ghost use Rattle.std.specs.VecDeque.{deque_len, deque_capacity};
 ghost use Rattle.uring_base.specs.Causes.{HasCause};
 ghost use Rattle.rent_engine.specs.Engines.{Offered};
 ghost use Rattle.rent_engine.specs.Executor.{no_tasks, spawned, output_taken, task_waits, IsSound, PollsFirst, AllPolled, IsRound, RunEnds, is_exec_fault, KeepsExecErrno};
-ghost use Rattle.rent_engine.specs.Turns.{EngineTurned};
+ghost use Rattle.rent_engine.specs.Turns.{HasTurned};
 
 use crate::engine::Engine;
 use crate::fault::EngineFault;
@@ -183,7 +183,7 @@ where
         turns: u32,
     ) -> Result<u32, ExecFault>
         ensures ran { RunEnds (IsRound (Offered R.used R.lists R.room R.waiting) R.room T.key T.offers T.done T.polls)
-            (EngineTurned P.machine P.log P.state R.lists R.ready R.space R.moved R.flags_word R.used R.room R.waiting engine.old.params) turns
+            (HasTurned P.machine P.log P.state R.lists R.ready R.space R.moved R.flags_word R.used R.room R.waiting engine.old.params) turns
             (record { partner = partner.old; scene = record { ring = engine.old.ring; ops = engine.old.ops; tasks = self.old } })
             (record { partner = partner.new; scene = record { ring = engine.new.ring; ops = engine.new.ops; tasks = self.new } }) result }
         ensures waits { result ≡ Err ExecFault.Spent → list_all (task_waits T.key T.offers engine.new.ops (R.room engine.new.ring)) self.new.unfinished ≡ true }
