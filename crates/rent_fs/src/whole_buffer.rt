@@ -72,6 +72,7 @@ impl<M: Transfer> WholeBuffer<M> {
             result: code,
             flags: _,
             buf,
+            quiet: _,
         } = done;
         let Some(buf) = buf else {
             return fails::<M>(WholeFault::KeyLost, Buf::new(alloc));
