@@ -176,8 +176,10 @@ fn whole_buffers_refused_and_lost(rt: HostRuntime) -> Result<(), Fail> {
     let mut one = engine_of(alloc)?;
     let mut other = engine_of(alloc)?;
     let mut first = write_of_five(alloc)?.with_number(5);
+    assert!(rt; !first.is_done());
     assert!(rt; first.poll(alloc, &mut one).is_pending());
     let mut second = write_of_five(alloc)?.with_number(5);
+    assert!(rt; !second.is_done());
     let polled = second.poll(alloc, &mut one);
     assert_gives(&rt, polled, Err(FsError::KeyInUse), b"hello");
     let polled = first.poll(alloc, &mut other);
