@@ -32,7 +32,7 @@ use Rattle.run_loop.specs.declared.slot.Reply.{Reply}
 use Rattle.run_loop.specs.Entries.{offers_from, all_taken, reply_in, lends_in, lends_at, AllValid, AllInRange}
 use Rattle.run_loop.specs.Laws.{ModelLaws}
 use Rattle.run_loop.specs.Memory.{Explains, replayed_outcomes}
-use Rattle.run_loop.specs.Rounds.{is_stall, is_stranger_fault}
+use Rattle.run_loop.specs.Rounds.{is_partner_fault, is_stall, is_stranger_fault}
 use Rattle.run_loop.specs.Runs.{Ran, RunSays, outcomes_from, IsAnswered, IsFaulted}
 use Rattle.run_loop.specs.Slots.{count_open, slots_from}
 use Rattle.run_loop.proofs.EntryLemmas.{offers_count}
@@ -235,3 +235,13 @@ says_either {W = W} mach view Plain laws log state old new jobs capacity bound s
 pub gain_at : (o : Option (List LogEvent)) (start count : ℕ) → start ≡ count → IfSome o (λ l. count ≡ length l) → IfSome o (λ l. start ≡ length l)
 gain_at None start count e h = tt
 gain_at (Some l) start count e h = e ∙ h
+
+-- want of memory isn't the partner's fault
+
+lacking : {T : Type 0} (r : Result T RunFault) → IfErr r (λ e. e ≡ faults.NoMemory) → IfErr r (λ e. is_partner_fault e ≡ false)
+lacking (Ok x) h = tt
+lacking (Err e) h = ap is_partner_fault h
+
+pub unplanned_lacking : {S T : Type 0} (state : Option S) (P : Type 0) (r : Result T RunFault) → IfErr r (λ e. e ≡ faults.NoMemory) → IfSome state (λ _. P → IfErr r (λ e. is_partner_fault e ≡ false))
+unplanned_lacking None P r h = tt
+unplanned_lacking (Some s) P r h = λ _. lacking r h

@@ -1,8 +1,8 @@
+use bitflags::Flags as _;
+use std::test::Fail;
 use uring_base::squeue::{Entry, Flags};
 use uring_base::types::{Fd, Fixed, FsyncFlags, Target, UseTarget};
 use uring_base::{Buf, Loan, Nums, cqueue, errno, limits};
-use bitflags::Flags as _;
-use std::test::Fail;
 
 /// Each call that can find no memory answers otherwise where there is memory.
 #[test]

@@ -1,5 +1,5 @@
-use uring_ops_file::{Close, Read, Write};
 use uring_base::types::{Fd, Fixed, Target};
+use uring_ops_file::{Close, Read, Write};
 
 /// A Read of 1024 bytes from the descriptor 5 into the loan 7, in its 64 bytes: the lowest of each
 /// word first.

@@ -1,7 +1,7 @@
 //! Large submission entries.
 
-use uring_large::squeue::{Entry, Entry128};
 use uring_base::squeue::Flags;
+use uring_large::squeue::{Entry, Entry128};
 
 /// A large entry: its setters, and its bytes, of which the last 64 lie behind those of a small one.
 #[test]

@@ -1,8 +1,8 @@
 //! Entries and completions of both sizes, by their markers.
 
+use uring_base::types::{Fd, UseTarget};
 use uring_large::squeue::{Entry, Entry128};
 use uring_large::{cqueue, squeue};
-use uring_base::types::{Fd, UseTarget};
 
 /// An entry of either size under another number: that number, the small entry, and the last of the
 /// bytes behind it.

@@ -1,5 +1,5 @@
-use uring_ops_path::{Fadvise, Madvise};
 use uring_base::types::Fixed;
+use uring_ops_path::{Fadvise, Madvise};
 
 /// Advice on the greatest length that its word holds.
 #[test]

@@ -1,10 +1,10 @@
+use bitflags::Flags;
+use std::time::Duration;
 use uring_types::{
     CancelBuilder, CloneBuffersFlags, DestinationSlot, Fd, Fixed, FsyncFlags,
     IORING_ZCRX_AREA_MASK, IORING_ZCRX_AREA_SHIFT, Napi, NapiTracking, RecvMsgOut, Target,
     TimeoutFlags, Timespec, UseTarget,
 };
-use bitflags::Flags;
-use std::time::Duration;
 
 /// The greatest slot is taken, and the index above it is given back.
 #[test]

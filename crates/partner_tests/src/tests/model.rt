@@ -1,9 +1,9 @@
-use uring_model::{
-    Files, Job, JobKind, Link, Operation, Outcome, Replayed, RunFault, have_counts, perform, replay,
-};
 use std::alloc::{AllocError, Global};
 use std::test::Fail;
 use uring_base::{Buf, Event};
+use uring_model::{
+    Files, Job, JobKind, Link, Operation, Outcome, Replayed, RunFault, have_counts, perform, replay,
+};
 
 #[derive(Debug, Drop)]
 enum Trouble {

@@ -1,12 +1,12 @@
 //! Texts, and the calls at both sizes of entries and of completions.
 
-use uring_ring::{Builder, IoUring, PartnerSide, PlainSide, PushError, SetupError, UserEnds};
 use std::process::Abort;
 use std::test::Fail;
 use uring_base::squeue::Entry;
 use uring_base::{Completion, Taken};
 use uring_large::cqueue::Entry32;
 use uring_large::squeue::Entry128;
+use uring_ring::{Builder, IoUring, PartnerSide, PlainSide, PushError, SetupError, UserEnds};
 
 /// Each call that can find no memory answers otherwise where there is memory.
 #[test]

@@ -1,6 +1,6 @@
-use ring_setup::{CompletionRingFlags, FeatureFlags, Settings, SetupFlags, SubmissionFlags};
 use bitflags::Flags as _;
 use ring_core::SetupError;
+use ring_setup::{CompletionRingFlags, FeatureFlags, Settings, SetupFlags, SubmissionFlags};
 use std::test::Fail;
 
 /// The sizes of the ring that would be made.

@@ -1,8 +1,8 @@
-use uring_text::{Script, ScriptFault, read_script};
 use std::alloc::{AllocError, Global};
 use std::fmt::Write;
 use std::test::Fail;
 use uring_model::{Job, JobKind, Link};
+use uring_text::{Script, ScriptFault, read_script};
 
 /// A job's kind, with all bytes of its buffer, and its marks.
 fn put_job(alloc: Global, out: &mut String, job: &Job) -> Result<(), AllocError> {

@@ -1,8 +1,8 @@
-use uring_text::report_text;
 use std::alloc::{AllocError, Global};
 use std::test::Fail;
 use uring_base::{Buf, Event};
 use uring_model::{Outcome, Report};
+use uring_text::report_text;
 
 /// A result, and the bytes of the buffer, if there is one.
 type End<'a> = (i32, Option<&'a [u8]>);

@@ -1,13 +1,13 @@
 ghost use Rattle.std.specs.Prelude.{None};
 
-use uring_streams::{
-    Failed, INPUT_LIMIT, InputFault, MemorySink, MemorySource, Sink, Source, StdSink, StdSource,
-    read_all, write_all,
-};
 use std::alloc::{AllocError, Global};
 use std::io::{self, ErrorKind, Read};
 use std::test::Fail;
 use uring_base::{Buf, Nums};
+use uring_streams::{
+    Failed, INPUT_LIMIT, InputFault, MemorySink, MemorySource, Sink, Source, StdSink, StdSource,
+    read_all, write_all,
+};
 
 /// The list of this one number.
 fn only(alloc: Global, number: u64) -> Result<Nums, AllocError> {

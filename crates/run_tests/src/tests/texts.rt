@@ -1,7 +1,7 @@
-use uring_text::{ScriptFault, Status, read_script, report_text, status_text};
 use std::io;
 use std::test::Fail;
 use uring_model::Report;
+use uring_text::{ScriptFault, Status, read_script, report_text, status_text};
 
 /// Each call that can find no memory answers otherwise where there is memory.
 #[test]

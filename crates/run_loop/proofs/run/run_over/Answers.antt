@@ -1,8 +1,9 @@
-use Rattle.std.proofs.Common.{Err, [], ap, sym, subst, ◌∙◌}
+use Rattle.std.proofs.Common.{◌≡◌, false, Err, [], IfSome, ap, sym, subst, ◌∙◌}
 use Rattle.std.proofs.lemmas.Result.{err_from_is_err_and}
 use Rattle.uring_model.specs.declared.jobs.RunFault.TheVariants as faults
 use Rattle.uring_model.specs.Moves.{log_of}
 use Rattle.run_loop.specs.Driven.{Driven, IsGivenUp}
+use Rattle.run_loop.specs.Rounds.{is_partner_fault}
 use Rattle.run_loop.specs.Runs.{RunSays}
 use Rattle.run_loop.specs.Slots.{slots_from, open_slots}
 use Rattle.std.specs.List.{AllByRecursion}
@@ -11,7 +12,7 @@ use Rattle.run_loop.specs.Entries.{all_taken}
 use Rattle.run_loop.proofs.Asks.{six_all}
 use Rattle.run_loop.proofs.Posts.{slots_first}
 use Rattle.run_loop.proofs.StartLemmas.{settled_first}
-use Rattle.run_loop.proofs.Says.{not_driven, not_stalled, says_fault, says_either, gain_at}
+use Rattle.run_loop.proofs.Says.{not_driven, not_stalled, says_fault, says_either, gain_at, unplanned_lacking}
 use Rattle.run_loop.proofs.run.run_over.Goals as goal
 
 pub returns-in_default-clause-says : goal.returns-in_default-clause-says
@@ -37,6 +38,15 @@ returns-in_err-drive-clause-says g c =
     (subst (λ x. (r : Driven g.P.Partner.machine g.P.Partner.log g.P.Partner.state c.args.partner.now c.drive.new.partner c.new-todo.result (g.R.UserEnds.entries_fit x) c.args.idle) × IsGivenUp c.new-todo.result c.args.idle (log_of r.moves) c.in_err-drive.field-0.0) c.new-engine.ensures.ring d.run) in
     rw p.1 (subst (λ e. RunSays g.P.Partner.machine g.P.Partner.view g.P.Partner.Plain g.P.Partner.log g.P.Partner.state c.args.partner.now c.drive.new.partner c.args.jobs.items (g.R.UserEnds.entries_fit c.args.ring) c.args.idle (Err e)) (sym p.2)
     (says_fault _ _ _ c.model_laws.ensures _ _ _ _ c.args.jobs.items _ _ c.in_err-drive.field-0.0 c.requires.valid c.requires.in_range run.0 run.1 d.unstalled))
+
+-- the loop's fault is handed on as it is
+pub returns-in_err-drive-clause-unplanned : goal.returns-in_err-drive-clause-unplanned
+returns-in_err-drive-clause-unplanned g c =
+    let p = err_from_is_err_and c.from_residual.result c.from_residual.ensures.1 in
+    rw p.1 (subst (λ e. IfSome (g.P.Partner.state c.args.partner.now) (λ _. g.P.Partner.plan c.args.partner.now ≡ [] → is_partner_fault e ≡ false)) (sym p.2) c.in_err-drive.ensures.unplanned)
+
+pub returns-clause-unplanned : goal.returns-clause-unplanned
+returns-clause-unplanned g c = unplanned_lacking (g.P.Partner.state c.args.partner.now) _ c.report_of.result c.report_of.ensures.err
 
 pub returns-clause-says : goal.returns-clause-says
 returns-clause-says g c =
