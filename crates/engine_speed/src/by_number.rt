@@ -22,12 +22,20 @@ fn start(
     Ok(())
 }
 
+/// 1 for an operation that is done, and 0 for any other.
+fn one_if_ready(polled: OpPoll) -> u64 {
+    match polled {
+        OpPoll::Ready(_) => 1,
+        OpPoll::Pending(_) | OpPoll::Lost(_) => 0,
+    }
+}
+
 /// Asks for the result of each, and tells how many are done.
 fn poll(engine: &mut Engine<IoUring>, keys: &mut Vec<OpKey>) -> u64 {
     let mut done = 0u64;
-    'keys: while let Some(key) = keys.pop() {
-        if let OpPoll::Ready(_) = engine.poll(key) {
-            done = done.wrapping_add(1);
+    for _ in 0..keys.len() {
+        if let Some(key) = keys.pop() {
+            done = done.wrapping_add(one_if_ready(engine.poll(key)));
         }
     }
     done

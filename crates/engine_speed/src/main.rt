@@ -53,18 +53,25 @@ fn tell(rt: &HostRuntime, name: &str, done: u64, time: Duration) -> io::Result<(
     eprintln!(rt; "{name}: {}.{} ns an operation", tenths / 10, tenths % 10)
 }
 
+/// Times operations under numbers.
+fn time_numbers(rt: &HostRuntime, alloc: Global) -> io::Result<()> {
+    let mut engine = engine_of(alloc, FEW_AT_ONCE.lot)?;
+    let start = Instant::now(rt)?;
+    let done = by_number::run(alloc, &mut engine, FEW_AT_ONCE)?;
+    tell(rt, "by number", done, start.elapsed(rt)?)
+}
+
+/// Times operations as states.
+fn time_states(rt: &HostRuntime, alloc: Global, name: &str, load: Load) -> io::Result<()> {
+    let mut engine = engine_of(alloc, load.lot)?;
+    let start = Instant::now(rt)?;
+    let done = by_state::run(alloc, &mut engine, load)?;
+    tell(rt, name, done, start.elapsed(rt)?)
+}
+
 fn main(rt: HostRuntime) -> io::Result<()> {
     let alloc = rt.alloc();
-    let mut engine = engine_of(alloc, FEW_AT_ONCE.lot)?;
-    let start = Instant::now(&rt)?;
-    let done = by_number::run(alloc, &mut engine, FEW_AT_ONCE)?;
-    tell(&rt, "by number", done, start.elapsed(&rt)?)?;
-    let mut engine = engine_of(alloc, FEW_AT_ONCE.lot)?;
-    let start = Instant::now(&rt)?;
-    let done = by_state::run(alloc, &mut engine, FEW_AT_ONCE)?;
-    tell(&rt, "64 states", done, start.elapsed(&rt)?)?;
-    let mut engine = engine_of(alloc, MANY_AT_ONCE.lot)?;
-    let start = Instant::now(&rt)?;
-    let done = by_state::run(alloc, &mut engine, MANY_AT_ONCE)?;
-    tell(&rt, "32768 states", done, start.elapsed(&rt)?)
+    time_numbers(&rt, alloc)?;
+    time_states(&rt, alloc, "64 states", FEW_AT_ONCE)?;
+    time_states(&rt, alloc, "32768 states", MANY_AT_ONCE)
 }

@@ -1,4 +1,5 @@
 mod engines;
+mod executors;
 mod files;
 mod handles;
 mod kept_steps;

@@ -1,5 +1,6 @@
+use crate::tests::engines::engine_of;
 use partner_traits::Seedable;
-use rent_engine::{Engine, EngineFault, OpState, Poll, StartFault};
+use rent_engine::{EngineFault, OpState, Poll, StartFault};
 use rent_fs::{File, FsError, ReadAt};
 use std::alloc::Global;
 use std::process::Abort;
@@ -8,14 +9,7 @@ use uring_base::Buf;
 use uring_base::errno::{EBADF, EIO};
 use uring_base::squeue::Flags;
 use uring_partner::{HostilePartner, LoanPlan, MemoryPartner, Scripted};
-use uring_ring::{IoUring, SetupError};
 use uring_submit::SubmitError;
-
-fn engine_of(alloc: Global, entries: u32) -> Result<Engine<IoUring>, SetupError> {
-    let ring = IoUring::new(alloc, entries)?;
-    let params = *ring.params();
-    Ok(Engine::new(alloc, ring, params))
-}
 
 /// Asserts that the state is done now, with this answer and these bytes.
 fn assert_gives(

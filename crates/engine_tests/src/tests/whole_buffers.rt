@@ -1,5 +1,6 @@
+use crate::tests::engines::engine_of;
 use partner_traits::{Partner, Seedable};
-use rent_engine::{Engine, OpState, Poll};
+use rent_engine::{OpState, Poll};
 use rent_fs::{File, FsError, ReadExactAt, WriteAllAt};
 use std::alloc::{AllocError, Global};
 use std::process::Abort;
@@ -7,13 +8,7 @@ use std::test::Fail;
 use uring_base::Buf;
 use uring_base::errno::EINTR;
 use uring_partner::{HostilePartner, LoanPlan, MemoryPartner, Scripted};
-use uring_ring::{IoUring, SetupError};
-
-fn engine_of(alloc: Global) -> Result<Engine<IoUring>, SetupError> {
-    let ring = IoUring::new(alloc, 1)?;
-    let params = *ring.params();
-    Ok(Engine::new(alloc, ring, params))
-}
+use uring_ring::SetupError;
 
 /// A partner that posts these results, one in each turn, each under number 0 and with its loan.
 fn posting(alloc: Global, results: &[i32]) -> Result<HostilePartner, AllocError> {
@@ -55,7 +50,7 @@ fn assert_writes<P: Partner>(
     turns: u32,
     answer: Result<(), FsError>,
 ) -> Result<(), SetupError> {
-    let mut engine = engine_of(alloc)?;
+    let mut engine = engine_of(alloc, 1)?;
     for _ in 0..turns {
         assert!(rt; !write.is_done());
         assert!(rt; write.poll(alloc, &mut engine).is_pending());
@@ -109,7 +104,7 @@ fn sixteen_interruptions(rt: HostRuntime) -> Result<(), Fail> {
 #[test]
 fn empty_buffers(rt: HostRuntime) -> Result<(), Fail> {
     let alloc = rt.alloc();
-    let mut engine = engine_of(alloc)?;
+    let mut engine = engine_of(alloc, 1)?;
     let file = File::of_number(3);
     let mut write = file.write_all_at(Buf::new(alloc), 7);
     assert!(rt; !write.is_done());
@@ -135,7 +130,7 @@ fn memory_of(rt: &impl Abort, alloc: Global, bytes: &[u8]) -> Result<MemoryPartn
 #[test]
 fn read_past_the_end(rt: HostRuntime) -> Result<(), Fail> {
     let alloc = rt.alloc();
-    let mut engine = engine_of(alloc)?;
+    let mut engine = engine_of(alloc, 1)?;
     let mut partner = memory_of(&rt, alloc, b"hello")?;
     let mut read = File::of_number(3).read_exact_at(Buf::zeroed(alloc, 4)?, 3);
     assert!(rt; read.poll(alloc, &mut engine).is_pending());
@@ -152,7 +147,7 @@ fn read_past_the_end(rt: HostRuntime) -> Result<(), Fail> {
 #[test]
 fn each_call_of_whole_buffers(rt: HostRuntime) -> Result<(), Fail> {
     let alloc = rt.alloc();
-    let mut engine = engine_of(alloc)?;
+    let mut engine = engine_of(alloc, 1)?;
     let mut partner = memory_of(&rt, alloc, b"")?;
     let file = File::of_number(3);
     let hello = Buf::from_slice(alloc, b"hello")?;
@@ -173,8 +168,8 @@ fn each_call_of_whole_buffers(rt: HostRuntime) -> Result<(), Fail> {
 #[test]
 fn whole_buffers_refused_and_lost(rt: HostRuntime) -> Result<(), Fail> {
     let alloc = rt.alloc();
-    let mut one = engine_of(alloc)?;
-    let mut other = engine_of(alloc)?;
+    let mut one = engine_of(alloc, 1)?;
+    let mut other = engine_of(alloc, 1)?;
     let mut first = write_of_five(alloc)?.with_number(5);
     assert!(rt; !first.is_done());
     assert!(rt; first.poll(alloc, &mut one).is_pending());
