@@ -17,7 +17,8 @@ scripts with rings of 64 and of 4,096 entries:
   chosen    nops, and for each of them a choice that names one deep among those that are ready
 
 Where crates/ring_speed/out/ring_speed is there too, which `rt run` leaves there, it is run as well: a
-million entries through a pair of rings of 64, and as many items through two deques.
+million entries through a pair of rings of 64, and as many items through two deques. So is
+crates/engine_speed/out/engine_speed: a million operations through an engine, in three ways.
 
 Each script is run N times (3, unless said), and the shortest time counts. A run that doesn't end with
 status 0, or whose report lacks a job, stops the measuring with status 1. The goals are those of
@@ -40,6 +41,9 @@ GOAL_NOP_MICROSECONDS = 1.0
 GOAL_MEGABYTES = 400.0
 GOAL_RING_RATIO = 1.5
 GOAL_ENTRY_NANOSECONDS = 40.0
+GOAL_NUMBER_NANOSECONDS = 250.0
+GOAL_STATE_NANOSECONDS = 400.0
+GOAL_STATES_RATIO = 1.5
 
 RINGS = (1, 64, 32_768)
 
@@ -187,23 +191,39 @@ def measure_marked(program, folder, runs):
     return met
 
 
-def nanoseconds_of(program):
-    """What the program says of its rings and of its deques, in nanoseconds an item."""
+def nanoseconds_of(program, names):
+    """What the program says of each of its ways, in nanoseconds an item or an operation."""
     run = subprocess.run([program], env={}, capture_output=True, text=True, check=True)
-    times = {name: float(number) for name, number in re.findall(r"^(\w+): ([0-9.]+) ns an item$", run.stderr, re.M)}
-    if set(times) != {"rings", "deques"}:
+    times = {name: float(number) for name, number in re.findall(r"^([\w ]+): ([0-9.]+) ns an (?:item|operation)$", run.stderr, re.M)}
+    if set(times) != set(names):
         sys.exit(f"measure.py: {program} said {run.stderr!r}")
     return times
 
 
 def measure_entries(program, runs):
     """How long an entry takes through a pair of rings, beside an item through two deques."""
-    all_times = [nanoseconds_of(program) for _ in range(runs)]
-    times = {name: sorted(times[name] for times in all_times) for name in ("rings", "deques")}
+    names = ("rings", "deques")
+    all_times = [nanoseconds_of(program, names) for _ in range(runs)]
+    times = {name: sorted(times[name] for times in all_times) for name in names}
     for name, sorted_times in times.items():
         print(f"{name:12} {sorted_times[0]:.1f} to {sorted_times[-1]:.1f} nanoseconds an item, {sorted_times[len(sorted_times) // 2]:.1f} in the middle")
     middle = times["rings"][runs // 2]
     return judge(middle <= GOAL_ENTRY_NANOSECONDS, f"an entry through a pair of rings: {middle:.1f} nanoseconds (goal: at most {GOAL_ENTRY_NANOSECONDS:.0f})")
+
+
+def measure_operations(program, runs):
+    """How long an operation takes through an engine, by number and as a state."""
+    names = ("by number", "64 states", "32768 states")
+    all_times = [nanoseconds_of(program, names) for _ in range(runs)]
+    middles = {}
+    for name in names:
+        times = sorted(times[name] for times in all_times)
+        middles[name] = times[runs // 2]
+        print(f"{name:12} {times[0]:.1f} to {times[-1]:.1f} nanoseconds an operation, {middles[name]:.1f} in the middle")
+    ratio = middles["32768 states"] / middles["64 states"]
+    met = judge(middles["by number"] <= GOAL_NUMBER_NANOSECONDS, f"an operation by number: {middles['by number']:.1f} nanoseconds (goal: at most {GOAL_NUMBER_NANOSECONDS:.0f})")
+    met &= judge(middles["64 states"] <= GOAL_STATE_NANOSECONDS, f"an operation as a state: {middles['64 states']:.1f} nanoseconds (goal: at most {GOAL_STATE_NANOSECONDS:.0f})")
+    return judge(ratio <= GOAL_STATES_RATIO, f"32768 states at once: {ratio:.2f} times the time of 64 (goal: at most {GOAL_STATES_RATIO})") and met
 
 
 def judge(ok, text):
@@ -237,6 +257,9 @@ def main():
     ring_speed = os.path.join(here(), "crates", "ring_speed", "out", "ring_speed")
     if os.access(ring_speed, os.X_OK):
         met &= measure_entries(ring_speed, max(words.runs, 5))
+    engine_speed = os.path.join(here(), "crates", "engine_speed", "out", "engine_speed")
+    if os.access(engine_speed, os.X_OK):
+        met &= measure_operations(engine_speed, max(words.runs, 5))
     sys.exit(0 if met else 1)
 
 
