@@ -31,10 +31,10 @@ impl OpKind for Succeeds {
     }
 }
 
-type Tasks = Executor<SingleOp<Succeeds>>;
+type NopTasks = Executor<SingleOp<Succeeds>>;
 
 /// Takes in a lot of tasks, and gives the last one's id.
-fn spawn(alloc: Global, tasks: &mut Tasks, lot: u32) -> io::Result<usize> {
+fn spawn(alloc: Global, tasks: &mut NopTasks, lot: u32) -> io::Result<usize> {
     let mut last = 0;
     for _ in 0..lot {
         let task = SingleOp::new(Nop::new().build(), None, Succeeds);
@@ -47,7 +47,7 @@ fn spawn(alloc: Global, tasks: &mut Tasks, lot: u32) -> io::Result<usize> {
 }
 
 /// Takes the outputs of a lot whose last id this is, and tells how many succeeded.
-fn take(tasks: &mut Tasks, last: usize, lot: u32) -> u64 {
+fn take(tasks: &mut NopTasks, last: usize, lot: u32) -> u64 {
     let mut done = 0u64;
     for place in 0..lot as usize {
         if tasks.take(last.wrapping_sub(place)) == Some(true) {
@@ -61,7 +61,7 @@ fn take(tasks: &mut Tasks, last: usize, lot: u32) -> u64 {
 fn serve(
     alloc: Global,
     engine: &mut Engine<IoUring>,
-    tasks: &mut Tasks,
+    tasks: &mut NopTasks,
     load: Load,
 ) -> io::Result<u64> {
     let mut partner = MemoryPartner::new(alloc);

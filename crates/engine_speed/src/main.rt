@@ -12,6 +12,7 @@ use rent_engine::Engine;
 use std::alloc::Global;
 use std::io;
 use std::time::{Duration, Instant};
+use uring_base::limits::MAX_ENTRIES;
 use uring_ring::IoUring;
 
 /// How many operations are done, and how.
@@ -36,7 +37,7 @@ const FEW_AT_ONCE: Load = Load {
 const MANY_AT_ONCE: Load = Load {
     partners: 31,
     lots: 1,
-    lot: 32_768,
+    lot: MAX_ENTRIES,
 };
 
 /// An engine over a pair of rings of this size.

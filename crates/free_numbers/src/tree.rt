@@ -3,13 +3,13 @@
 //! Node 1 is the root, and nodes 2i and 2i + 1 stand below node i. The leaves are the nodes from
 //! the limit on, one for each number below it. A node is full where both nodes below it are.
 
-ghost use Rattle.std.specs.Prelude.{◌≡◌, ◌++◌, ◌+◌, ◌-◌, ◌*◌, ◌<◌, ◌≤◌, Some, true, false, not, length, drop, position, replicate, slice_index_or, slice_set, OnOk, OnErr};
+ghost use Rattle.std.specs.Prelude.{◌≡◌, ◌++◌, ◌+◌, ◌-◌, ◌*◌, ◌<◌, ◌≤◌, ◌&&◌, Some, true, false, not, length, drop, position, replicate, slice_index_or, slice_set, OnOk, OnErr};
 ghost use Rattle.std.specs.Int.{IsPowerOfTwo};
 ghost use Rattle.free_numbers.specs.Tree.{is_full, IsTree};
 
 use std::alloc::AllocError;
 
-/// Marks a leaf, and then each node above it.
+/// Marks a leaf, and then the nodes above it, up to the first whose mark stays.
 pub(crate) fn set_leaf(full: &mut [bool], limit: usize, number: usize, taken: bool)
     requires tree { IsTree limit full.old }
     requires within { number < limit }
@@ -20,8 +20,20 @@ pub(crate) fn set_leaf(full: &mut [bool], limit: usize, number: usize, taken: bo
     full[node] = taken;
     while node > 1 {
         node /= 2;
-        full[node] = full[2 * node] && full[2 * node + 1];
+        let joined = both_full(full, node);
+        if full[node] == joined {
+            return;
+        }
+        full[node] = joined;
     }
+}
+
+/// Whether both nodes below a node are full.
+fn both_full(full: &[bool], node: usize) -> bool
+    requires { 2 * node + 1 < length full.now }
+    ensures { result ≡ is_full full.now (2 * node) && is_full full.now (2 * node + 1) }
+{
+    full[2 * node] && full[2 * node + 1]
 }
 
 /// The number of the first leaf that isn't full, by the nodes that aren't from the root down.
@@ -65,6 +77,6 @@ fn join_all(full: &mut [bool], limit: usize)
     ensures leaves { drop limit full.new ≡ drop limit full.old }
 {
     for node in (1..limit).rev() {
-        full[node] = full[2 * node] && full[2 * node + 1];
+        full[node] = both_full(full, node);
     }
 }

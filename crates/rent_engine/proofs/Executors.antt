@@ -13,7 +13,7 @@ use Rattle.rent_engine.specs.declared.state.Poll.{Poll}
 use Rattle.rent_engine.specs.declared.state.Poll.TheVariants.{Ready, Pending}
 use Rattle.rent_table.specs.Ops.{Ops}
 use Rattle.rent_engine.specs.States.{is_pending, waits_on, KeepsInFlight}
-use Rattle.rent_engine.specs.Executor.{Tasks, Scene, are_in_order, if_waiting, settled, task_waits, IsSound, PollsFirst, AllPolled, IsRound}
+use Rattle.rent_engine.specs.Executor.{Tasks, Scene, are_in_order, if_waiting, after_poll, task_waits, AreValidTasks, PollsFirst, AllPolled, IsRound}
 
 -- Outputs by the entries of a hash map.
 
@@ -184,7 +184,7 @@ record IsSoundWith {S O : Type 0} (done : S → Bool) (ts : List (ℕ × S)) (ta
   to_come : (id : ℕ) → tasks.next ≤ id → get tasks.outputs id ≡ None
 
 module _ {S O : Type 0} (done : S → Bool) where
-  sound_step : (t : ℕ × S) (ts : List (ℕ × S)) (left : S) (answer : Poll O) (tasks : Tasks S O) → done left ≡ not (is_pending answer) → IsSoundWith done (t ∷ ts) tasks → IsSoundWith done ts (settled t.0 left answer tasks)
+  sound_step : (t : ℕ × S) (ts : List (ℕ × S)) (left : S) (answer : Poll O) (tasks : Tasks S O) → done left ≡ not (is_pending answer) → IsSoundWith done (t ∷ ts) tasks → IsSoundWith done ts (after_poll t.0 left answer tasks)
   sound_step t ts left Pending tasks over s = record {
     ordered = subst (λ xs. are_in_order tasks.outputs tasks.next 0 xs ≡ true) (sym (append_assoc tasks.unfinished ((t.0, left) ∷ []) ts)) (other_state tasks.outputs tasks.next 0 tasks.unfinished t left ts s.ordered);
     undone = one_more_passes _ tasks.unfinished (t.0, left) s.undone (ap not over);
@@ -215,12 +215,12 @@ module _ {R S O : Type 0} (offered : R → List Taken → R → Type 0) (room : 
       let next = d.0 in let poll = d.1 in
       let old : list_all (task_waits key offers next.ops (room next.ring)) before.tasks.unfinished ≡ true =
       all_weaker _ _ (λ x is. waits_stay (key x.1) (offers x.1) before.ops next.ops (room before.ring) (room next.ring) poll.in_flight poll.free is) before.tasks.unfinished w in
-      let all : list_all (task_waits key offers next.ops (room next.ring)) (settled t.0 poll.left poll.answer before.tasks).unfinished ≡ true =
+      let all : list_all (task_waits key offers next.ops (room next.ring)) (after_poll t.0 poll.left poll.answer before.tasks).unfinished ≡ true =
       all_both _ before.tasks.unfinished _ old (wait_step next.ops (room next.ring) t.0 poll.left poll.answer poll.pending) in
       waits_through ts next after d.3 (subst (λ (x : Tasks S O). list_all (task_waits key offers next.ops (room next.ring)) x.unfinished ≡ true) (sym d.2) all)
 
   -- what a round from sound tasks leaves is sound, and waits
-  pub round_sound : (tasks : Tasks S O) (ring : R) (ops : Ops) (after : Scene R S O) → IsRound offered room key offers done polls (record { ring = ring; ops = ops; tasks = tasks }) after → IsSound done tasks → IsSound done after.tasks
+  pub round_sound : (tasks : Tasks S O) (ring : R) (ops : Ops) (after : Scene R S O) → IsRound offered room key offers done polls (record { ring = ring; ops = ops; tasks = tasks }) after → AreValidTasks done tasks → AreValidTasks done after.tasks
   round_sound tasks ring ops after d s =
       let end = sound_through tasks.unfinished (record { ring = ring; ops = ops; tasks = record tasks { unfinished = [] } }) after d (record { ordered = s.ordered; undone = refl; to_come = s.to_come }) in
       record {
@@ -315,7 +315,7 @@ module _ {R S O : Type 0} (offered : R → List Taken → R → Type 0) (room : 
 
 -- Changes of the tasks.
 module _ {S O : Type 0} (done : S → Bool) where
-  pub sound_empty : (items : List (ℕ × S)) (es : List (ℕ × O)) → items ≡ [] → es ≡ [] → IsSound done (record { next = 0; unfinished = items; outputs = from_entries es })
+  pub sound_empty : (items : List (ℕ × S)) (es : List (ℕ × O)) → items ≡ [] → es ≡ [] → AreValidTasks done (record { next = 0; unfinished = items; outputs = from_entries es })
   sound_empty items es e f = record {
     ordered = ap (are_in_order (from_entries es) 0 0) e;
     undone = ap (list_all (λ t. not (done t.1))) e;
@@ -323,7 +323,7 @@ module _ {S O : Type 0} (done : S → Bool) where
   }
 
   pub sound_spawned : (next after : ℕ) (items items' : List (ℕ × S)) (m : FinMap nat_cmp O) (task : S) → after ≡ next + 1 → items' ≡ items ++ (next, task) ∷ [] → done task ≡ false
-      → IsSound done (record { next = next; unfinished = items; outputs = m }) → IsSound done (record { next = after; unfinished = items'; outputs = m })
+      → AreValidTasks done (record { next = next; unfinished = items; outputs = m }) → AreValidTasks done (record { next = after; unfinished = items'; outputs = m })
   sound_spawned next after items items' m task e f undone s =
       let one : after ≡ suc next = e ∙ add-one next in record {
         ordered = subst (λ n. are_in_order m n 0 items' ≡ true) (sym one) (subst (λ xs. are_in_order m (suc next) 0 xs ≡ true) (sym f) (one_behind m next 0 items task (s.to_come next (omega arith)) s.ordered));
@@ -331,7 +331,7 @@ module _ {S O : Type 0} (done : S → Bool) where
         to_come = λ id le. s.to_come id (omega (arith, le, one));
       }
 
-  pub sound_taken : (tasks : Tasks S O) (m : FinMap nat_cmp O) (id : ℕ) → m ≡ remove tasks.outputs id → IsSound done tasks → IsSound done (record tasks { outputs = m })
+  pub sound_taken : (tasks : Tasks S O) (m : FinMap nat_cmp O) (id : ℕ) → m ≡ remove tasks.outputs id → AreValidTasks done tasks → AreValidTasks done (record tasks { outputs = m })
   sound_taken tasks m id e s = record {
     ordered = subst (λ x. are_in_order x tasks.next 0 tasks.unfinished ≡ true) (sym e) (output_gone tasks.outputs tasks.next 0 id tasks.unfinished s.ordered);
     undone = s.undone;

@@ -14,7 +14,7 @@ use Rattle.rent_engine.specs.declared.sequences.Sequence.{Sequence}
 use Rattle.rent_table.specs.Ops.{Ops}
 use Rattle.rent_engine.specs.Ops.{polled}
 use Rattle.rent_engine.specs.OneOp.{OneStep, answer_of, stage_after, stage_over}
-use Rattle.rent_engine.specs.Plans.{Followed, GoesBy, IsKept, PollsBy, SequencePolls}
+use Rattle.rent_engine.specs.Plans.{Followed, GoesBy, KeepsMarks, PollsBy, SequencePolls}
 
 over_after : (p : OpPoll) (given : OneAnswer) → Ready given ≡ answer_of p → stage_after p ≡ Over
 over_after (polls.Ready done) given e = refl
@@ -45,7 +45,7 @@ module _ {P T : Type 0} (follows : P → OneAnswer → PlanStep T → P → Type
   -- the operation is over, and what became of it is followed
   pub answered : (state next : Sequence P T) (stage : Stage) (o : Option T) (ops mid after : Ops) (first ts : List Taken) (given : OneAnswer) (answer : Poll T)
       → state.given ≡ None → o ≡ None → OneStep state.op ops first (Ready given) mid stage
-      → Followed follows (record state { op = stage; given = o }) given mid ts answer after next → IsKept (record state { op = stage; given = o }) next
+      → Followed follows (record state { op = stage; given = o }) given mid ts answer after next → KeepsMarks (record state { op = stage; given = o }) next
       → SequencePolls follows state ops ts answer after next
   answered state next stage o ops mid after first ts given answer none taken step followed kept =
       let over = ready_is_over state.op ops mid first given stage step in

@@ -39,24 +39,24 @@ loan_of n from None = None
 loan_of n from (Some buf) = Some (record { number = n; from = from; buf = buf })
 
 -- the flags, by which a completion is posted whatever the result
-abbrev pub posting : ℕ → ℕ
-posting flags = bit_and flags (bit_not w8 (bits_in SKIP_SUCCESS))
+abbrev pub without_skip_success : ℕ → ℕ
+without_skip_success flags = bit_and flags (bit_not w8 (bits_in SKIP_SUCCESS))
 
 -- the flags, by which nothing is posted where the operation succeeds
-abbrev pub skipping : ℕ → ℕ
-skipping flags = bit_or flags (bits_in SKIP_SUCCESS)
+abbrev pub with_skip_success : ℕ → ℕ
+with_skip_success flags = bit_or flags (bits_in SKIP_SUCCESS)
 
 -- the next entry starts when this one is done
-abbrev pub is_linked : Entry → Bool
-is_linked entry = has_flags entry.flags IO_LINK || has_flags entry.flags IO_HARDLINK
+abbrev pub links_next : Entry → Bool
+links_next entry = has_flags entry.flags IO_LINK || has_flags entry.flags IO_HARDLINK
 
 -- what is offered for an operation: its entry under its number, with its buffer lent
 abbrev pub offered_entry : ℕ → Entry → ℕ → Option Buf → Taken
-offered_entry n entry from buf = small (record entry { flags = posting entry.flags; user_data = n }) (loan_of n from buf)
+offered_entry n entry from buf = small (record entry { flags = without_skip_success entry.flags; user_data = n }) (loan_of n from buf)
 
 -- what is offered for a quiet operation: its entry under its number, without a loan
 abbrev pub offered_quiet : ℕ → Entry → Taken
-offered_quiet n entry = small (record entry { flags = skipping entry.flags; user_data = n }) None
+offered_quiet n entry = small (record entry { flags = with_skip_success entry.flags; user_data = n }) None
 
 -- what is offered for the cancel of an operation: the entry of its builder, without a loan
 abbrev pub offered_cancel : ℕ → ℕ → Taken

@@ -63,11 +63,11 @@ module _ {T O : Type 0} where
   output_taken id tasks = record tasks { outputs = remove tasks.outputs id }
 
   -- a task was polled: it is unfinished, behind those that were polled before it, or its output is kept
-  abbrev pub settled : ℕ → T → Poll O → Tasks T O → Tasks T O
-  settled id task answer tasks = record tasks { unfinished = tasks.unfinished ++ if_waiting id task answer; outputs = with_output id answer tasks.outputs }
+  abbrev pub after_poll : ℕ → T → Poll O → Tasks T O → Tasks T O
+  after_poll id task answer tasks = record tasks { unfinished = tasks.unfinished ++ if_waiting id task answer; outputs = with_output id answer tasks.outputs }
 
   -- The unfinished tasks are in order, and none is done; no id to come has an output.
-  pub record IsSound (done : T → Bool) (tasks : Tasks T O) : Type 0 where
+  pub record AreValidTasks (done : T → Bool) (tasks : Tasks T O) : Type 0 where
     pub ordered : are_in_order tasks.outputs tasks.next 0 tasks.unfinished ≡ true
     pub undone : list_all (λ t. not (done t.1)) tasks.unfinished ≡ true
     pub to_come : (id : ℕ) → tasks.next ≤ id → get tasks.outputs id ≡ None
@@ -105,7 +105,7 @@ module _ {R T O : Type 0} (offered : R → List Taken → R → Type 0) (room : 
   AllPolled [] before after = after ≡ before
   AllPolled (t ∷ ts) before after =
       (next : Scene R T O) × (poll : IsPoll t.1 before.ring before.ops next.ring next.ops)
-      × (next.tasks ≡ settled t.0 poll.left poll.answer before.tasks) × AllPolled ts next after
+      × (next.tasks ≡ after_poll t.0 poll.left poll.answer before.tasks) × AllPolled ts next after
 
   -- a round: each unfinished task is polled once, in rising id
   abbrev pub IsRound : Scene R T O → Scene R T O → Type 0

@@ -43,7 +43,7 @@ module _ {P T : Type 0} where
   is_over state = stage_over state.op && is_none state.given
 
   -- the number and the flags hold for each operation
-  pub record IsKept (state next : Sequence P T) : Type 0 where
+  pub record KeepsMarks (state next : Sequence P T) : Type 0 where
     pub number : next.number ≡ state.number
     pub flags : next.flags ≡ state.flags
     pub given : next.given ≡ state.given
@@ -76,19 +76,19 @@ module _ {P T : Type 0} where
       pub waits : OneStep state.op ops ts Pending after next.op
       pub gives : answer ≡ Pending
       pub plan : next.plan ≡ state.plan
-      pub kept : IsKept state next
+      pub kept : KeepsMarks state next
 
     -- its operation is over, and is followed
-    pub record Answered (state : Sequence P T) (ops : Ops) (ts : List Taken) (answer : Poll T) (after : Ops) (next : Sequence P T) : Type 0 where
+    pub record Ends (state : Sequence P T) (ops : Ops) (ts : List Taken) (answer : Poll T) (after : Ops) (next : Sequence P T) : Type 0 where
       pub given : OneAnswer
       pub mid : Ops
       pub ends : OneStep state.op ops [] (Ready given) mid Over
       pub followed : Followed state given mid ts answer after next
-      pub kept : IsKept state next
+      pub kept : KeepsMarks state next
 
     abbrev pub PollsBy : Option T → Sequence P T → Ops → List Taken → Poll T → Ops → Sequence P T → Type 0
     PollsBy (Some output) state ops ts answer after next = (ts ≡ []) × (after ≡ ops) × (answer ≡ Ready output) × (is_over next ≡ true)
-    PollsBy None state ops ts answer after next = Waits state ops ts answer after next ⊎ Answered state ops ts answer after next
+    PollsBy None state ops ts answer after next = Waits state ops ts answer after next ⊎ Ends state ops ts answer after next
 
     -- one poll: an output that it has already is given; or its operation is polled, and the next is begun where the plan asks for one
     abbrev pub SequencePolls : Sequence P T → Ops → List Taken → Poll T → Ops → Sequence P T → Type 0

@@ -7,7 +7,7 @@ ghost use Rattle.std.specs.HashMap.{spare};
 ghost use Rattle.std.specs.VecDeque.{deque_len, deque_capacity};
 ghost use Rattle.uring_base.specs.Causes.{HasCause};
 ghost use Rattle.rent_engine.specs.Engines.{Offered};
-ghost use Rattle.rent_engine.specs.Executor.{no_tasks, spawned, output_taken, task_waits, IsSound, PollsFirst, AllPolled, IsRound, RunEnds, is_exec_fault, KeepsExecErrno};
+ghost use Rattle.rent_engine.specs.Executor.{no_tasks, spawned, output_taken, task_waits, AreValidTasks, PollsFirst, AllPolled, IsRound, RunEnds, is_exec_fault, KeepsExecErrno};
 ghost use Rattle.rent_engine.specs.Turns.{HasTurned};
 
 use crate::engine::Engine;
@@ -83,7 +83,7 @@ pub struct Executor<T: OpState> {
 
 impl<T: OpState> Model for Executor<T> {
     ghost use Rattle.std.specs.FinMap.{from_entries};
-    ghost use Rattle.rent_engine.specs.Executor.{Tasks, tasks_code, IsSound};
+    ghost use Rattle.rent_engine.specs.Executor.{Tasks, tasks_code, AreValidTasks};
 
     ghost Value = { Tasks T T.Output };
 
@@ -91,7 +91,7 @@ impl<T: OpState> Model for Executor<T> {
 
     ghost view = { λ e. record { next = e.next; unfinished = e.unfinished.items; outputs = from_entries e.outputs.entries } };
 
-    ghost invariant = { λ e. IsSound T.done (record { next = e.next; unfinished = e.unfinished.items; outputs = from_entries e.outputs.entries }) };
+    ghost invariant = { λ e. AreValidTasks T.done (record { next = e.next; unfinished = e.unfinished.items; outputs = from_entries e.outputs.entries }) };
 }
 
 impl<T: OpState> Executor<T> {
@@ -109,7 +109,7 @@ impl<T: OpState> Executor<T> {
     /// How many tasks are unfinished.
     pub fn unfinished(&self) -> usize
         ensures count { result ≡ length self.now.unfinished }
-        ensures sound { IsSound T.done self.now }
+        ensures sound { AreValidTasks T.done self.now }
     {
         self.unfinished.len()
     }

@@ -133,7 +133,7 @@ fn marked(request: Request, number: Option<u64>, flags: Flags) -> Request
 }
 
 impl<P: Plan> Sequence<P, P::Output> {
-    ghost use Rattle.rent_engine.specs.Plans.{AsksOn, Followed, IsKept};
+    ghost use Rattle.rent_engine.specs.Plans.{AsksOn, Followed, KeepsMarks};
 
     /// Begins the operation that the plan asks for. Where it can't be begun, that ends the plan.
     fn ask_on<R: UserEnds>(
@@ -147,7 +147,7 @@ impl<P: Plan> Sequence<P, P::Output> {
             × AsksOn P.follows self.old request engine.old.ops ts result engine.new.ops self.new }
         ensures pending { is_pending result ≡ waits_on (stage_key self.new.op) (stage_offers self.new.op) engine.new.ops (R.room engine.new.ring) }
         ensures done { stage_over self.new.op ≡ not (is_pending result) }
-        ensures kept { IsKept self.old self.new }
+        ensures kept { KeepsMarks self.old self.new }
         ensures in_flight { KeepsInFlight engine.old.ops engine.new.ops }
         ensures free { R.room engine.new.ring ≤ R.room engine.old.ring }
         ensures spare { engine.old.spare ≤ engine.new.spare + 1 }
@@ -175,7 +175,7 @@ impl<P: Plan> Sequence<P, P::Output> {
             × Followed P.follows self.old answer engine.old.ops ts result engine.new.ops self.new }
         ensures pending { is_pending result ≡ waits_on (stage_key self.new.op) (stage_offers self.new.op) engine.new.ops (R.room engine.new.ring) }
         ensures done { stage_over self.new.op ≡ not (is_pending result) }
-        ensures kept { IsKept self.old self.new }
+        ensures kept { KeepsMarks self.old self.new }
         ensures in_flight { KeepsInFlight engine.old.ops engine.new.ops }
         ensures free { R.room engine.new.ring ≤ R.room engine.old.ring }
         ensures spare { engine.old.spare ≤ engine.new.spare + 1 }

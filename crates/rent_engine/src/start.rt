@@ -3,7 +3,7 @@
 ghost use Rattle.std.specs.Prelude.{◌≡◌, ◌+◌, ◌<◌, ◌≤◌, ◌==◌, ◌≢◌, ◌&&◌, bit_and, bit_or, not, true, false, [], ◌∷◌, length, None, Some, OnOk, OnErr, IfErr, IfOk, IfSome, is_some, is_ok, if◌then◌else◌};
 ghost use Rattle.rent_table.specs.Lists.{list_at};
 ghost use Rattle.rent_table.specs.Ops.{knows, started};
-ghost use Rattle.rent_engine.specs.Engines.{posting, skipping, is_linked, offered_entry, offered_quiet, offered_cancel, loan_of, Offered};
+ghost use Rattle.rent_engine.specs.Engines.{without_skip_success, with_skip_success, links_next, offered_entry, offered_quiet, offered_cancel, loan_of, Offered};
 ghost use Rattle.rent_engine.specs.Faults.{fault_buf, is_key_in_use, is_ring_full, is_no_memory};
 
 use crate::engine::Engine;
@@ -55,7 +55,7 @@ impl<R: UserEnds> Engine<R> {
         }
         let lent = buf.is_some();
         let loan = lend(number, from, buf);
-        let entry = posting(entry).user_data(number);
+        let entry = without_skip_success(entry).user_data(number);
         match self.ring.offer(entry, loan) {
             Ok(()) => (),
             Err(_) => unreachable!(),
@@ -73,7 +73,7 @@ impl<R: UserEnds> Engine<R> {
         entry: Entry,
         next: u64,
     ) -> Result<OpKey, StartFault>
-        requires linked { is_linked entry ≡ true }
+        requires linked { links_next entry ≡ true }
         requires apart { next ≢ number }
         ensures key { IfOk result (λ key. key ≡ number) }
         ensures ops { OnOk result (self.new.ops ≡ started number false (Some next) self.old.ops) }
@@ -99,7 +99,7 @@ impl<R: UserEnds> Engine<R> {
         if self.operations.reserve(1).is_err() {
             return Err(StartFault::NoMemory(None));
         }
-        let entry = skipping(entry).user_data(number);
+        let entry = with_skip_success(entry).user_data(number);
         match self.ring.offer(entry, None) {
             Ok(()) => (),
             Err(_) => unreachable!(),
@@ -133,8 +133,8 @@ impl<R: UserEnds> Engine<R> {
 }
 
 /// The entry, whose completion is posted whatever its result.
-fn posting(entry: Entry) -> Entry
-    ensures { result ≡ record entry { flags = posting entry.flags } }
+fn without_skip_success(entry: Entry) -> Entry
+    ensures { result ≡ record entry { flags = without_skip_success entry.flags } }
 {
     Entry {
         flags: entry.flags & !Flags::SKIP_SUCCESS.bits(),
@@ -143,8 +143,8 @@ fn posting(entry: Entry) -> Entry
 }
 
 /// The entry, for which nothing is posted where it succeeds.
-fn skipping(entry: Entry) -> Entry
-    ensures { result ≡ record entry { flags = skipping entry.flags } }
+fn with_skip_success(entry: Entry) -> Entry
+    ensures { result ≡ record entry { flags = with_skip_success entry.flags } }
 {
     entry.flags(Flags::SKIP_SUCCESS)
 }

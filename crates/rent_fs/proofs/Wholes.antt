@@ -10,32 +10,32 @@ use Rattle.rent_fs.specs.declared.answers.TheConstants.{MAX_BREAKS}
 use Rattle.rent_fs.specs.declared.answers.Progress.TheVariants.{Going, Whole, Failed}
 use Rattle.rent_fs.specs.declared.answers.WholeFault.{WholeFault}
 use Rattle.rent_fs.specs.declared.answers.WholeFault.TheVariants.{Os, Nothing, Interrupted, BadCount}
-use Rattle.rent_fs.specs.WholeBuffer.{Answer, going, after_answer, after_result, progress_of}
+use Rattle.rent_fs.specs.WholeBuffer.{TransferAnswer, going, after_answer, after_result, progress_of}
 use Rattle.rent_fs.specs.Laws.{bytes_in, breaks_in, is_good, IsWholeExactly}
 
 -- what ends stays so
-stays_failed : (len : ℕ) (fault : WholeFault) (answers : List Answer) → fold (after_answer len) (Failed fault) answers ≡ Failed fault
+stays_failed : (len : ℕ) (fault : WholeFault) (answers : List TransferAnswer) → fold (after_answer len) (Failed fault) answers ≡ Failed fault
 stays_failed len fault [] = refl
 stays_failed len fault (a ∷ xs) = stays_failed len fault xs
 
-stays_whole : (len : ℕ) (answers : List Answer) → fold (after_answer len) Whole answers ≡ Whole
+stays_whole : (len : ℕ) (answers : List TransferAnswer) → fold (after_answer len) Whole answers ≡ Whole
 stays_whole len [] = refl
 stays_whole len (a ∷ xs) = stays_whole len xs
 
 -- the first answers are good, and add up to what is left
-record AddsFrom (len rest breaks : ℕ) (answers : List Answer) : Type 0 where
-  first : List Answer
-  behind : List Answer
+record AddsFrom (len rest breaks : ℕ) (answers : List TransferAnswer) : Type 0 where
+  first : List TransferAnswer
+  behind : List TransferAnswer
   all : answers ≡ first ++ behind
   good : AllByRecursion (λ a. is_good len a ≡ true) first
   whole : sum_by (λ a. bytes_in a.result) first ≡ rest
   few : breaks + sum_by (λ a. breaks_in a.result) first ≤ MAX_BREAKS
 
-nothing_left : (len rest breaks : ℕ) (answers : List Answer) → (rest == 0) ≡ true → breaks ≤ MAX_BREAKS → AddsFrom len rest breaks answers
+nothing_left : (len rest breaks : ℕ) (answers : List TransferAnswer) → (rest == 0) ≡ true → breaks ≤ MAX_BREAKS → AddsFrom len rest breaks answers
 nothing_left len rest breaks answers e ok = record { first = []; behind = answers; all = refl; good = tt; whole = sym (eqb-true rest 0 e); few = omega arith }
 
 -- one more answer in front
-more : (len rest rest' breaks breaks' : ℕ) (a : Answer) (xs : List Answer) → is_good len a ≡ true → bytes_in a.result + rest' ≡ rest → breaks' ≡ breaks + breaks_in a.result → AddsFrom len rest' breaks' xs → AddsFrom len rest breaks (a ∷ xs)
+more : (len rest rest' breaks breaks' : ℕ) (a : TransferAnswer) (xs : List TransferAnswer) → is_good len a ≡ true → bytes_in a.result + rest' ≡ rest → breaks' ≡ breaks + breaks_in a.result → AddsFrom len rest' breaks' xs → AddsFrom len rest breaks (a ∷ xs)
 more len rest rest' breaks breaks' a xs good r b from = record {
   first = a ∷ from.first;
   behind = from.behind;
@@ -63,12 +63,12 @@ no_count n e some = grind (arith, nat_tests)
 too_many : (rest n more : ℕ) → nat_lt rest n ≡ true → n + more ≡ rest → ⊥
 too_many rest n more e whole = grind (arith, nat_tests)
 
-is_good_as : (len : ℕ) (a : Answer) (z : ℤ) → a.result ≡ z → (a.length == len) ≡ true → nat_lt 0 (bytes_in z + breaks_in z) ≡ true → is_good len a ≡ true
+is_good_as : (len : ℕ) (a : TransferAnswer) (z : ℤ) → a.result ≡ z → (a.length == len) ≡ true → nat_lt 0 (bytes_in z + breaks_in z) ≡ true → is_good len a ≡ true
 is_good_as len a z is same some = rw (same, is) some
 
 -- what adds up to the whole, by the answer in front
 
-module _ (len rest breaks : ℕ) (a : Answer) (xs : List Answer) (ok : breaks ≤ MAX_BREAKS) (left : (rest == 0) ≡ false) (same : (a.length == len) ≡ true)
+module _ (len rest breaks : ℕ) (a : TransferAnswer) (xs : List TransferAnswer) (ok : breaks ≤ MAX_BREAKS) (left : (rest == 0) ≡ false) (same : (a.length == len) ≡ true)
     (later : (rest' breaks' : ℕ) → breaks' ≤ MAX_BREAKS → fold (after_answer len) (going rest' breaks') xs ≡ Whole → AddsFrom len rest' breaks' xs) where
   by_count : (n : ℕ) (none over : Bool) → a.result ≡ pos n → (n == 0) ≡ none → nat_lt rest n ≡ over
       → fold (after_answer len) (cond none (Failed Nothing) (cond over (Failed BadCount) (going (rest - n) breaks))) xs ≡ Whole → AddsFrom len rest breaks (a ∷ xs)
@@ -93,13 +93,13 @@ module _ (len rest breaks : ℕ) (a : Answer) (xs : List Answer) (ok : breaks �
   by_result (pos n) is whole = by_count n (n == 0) (nat_lt rest n) is refl refl whole
   by_result (negsuc n) is whole = by_errno n (n + 1 == cast_unsigned w32 EINTR) (nat_lt breaks MAX_BREAKS) is refl refl whole
 
-by_length : (len rest breaks : ℕ) (a : Answer) (xs : List Answer) (same : Bool) → breaks ≤ MAX_BREAKS → (rest == 0) ≡ false → (a.length == len) ≡ same
+by_length : (len rest breaks : ℕ) (a : TransferAnswer) (xs : List TransferAnswer) (same : Bool) → breaks ≤ MAX_BREAKS → (rest == 0) ≡ false → (a.length == len) ≡ same
     → ((rest' breaks' : ℕ) → breaks' ≤ MAX_BREAKS → fold (after_answer len) (going rest' breaks') xs ≡ Whole → AddsFrom len rest' breaks' xs)
     → fold (after_answer len) (cond same (after_result (record { rest = rest; breaks = breaks }) a.result) (Failed BadCount)) xs ≡ Whole → AddsFrom len rest breaks (a ∷ xs)
 by_length len rest breaks a xs true ok left same later whole = by_result len rest breaks a xs ok left same later a.result refl whole
 by_length len rest breaks a xs false ok left same later whole = absurd (let f = stays_failed len BadCount xs in cc)
 
-by_rest : (len rest breaks : ℕ) (a : Answer) (xs : List Answer) (none : Bool) → breaks ≤ MAX_BREAKS → (rest == 0) ≡ none
+by_rest : (len rest breaks : ℕ) (a : TransferAnswer) (xs : List TransferAnswer) (none : Bool) → breaks ≤ MAX_BREAKS → (rest == 0) ≡ none
     → ((rest' breaks' : ℕ) → breaks' ≤ MAX_BREAKS → fold (after_answer len) (going rest' breaks') xs ≡ Whole → AddsFrom len rest' breaks' xs)
     → fold (after_answer len) (after_answer len (cond none Whole (Going (record { rest = rest; breaks = breaks }))) a) xs ≡ Whole → AddsFrom len rest breaks (a ∷ xs)
 by_rest len rest breaks a xs true ok none later whole = nothing_left len rest breaks (a ∷ xs) none ok
@@ -109,7 +109,7 @@ at_end : (len rest breaks : ℕ) (none : Bool) → breaks ≤ MAX_BREAKS → (re
 at_end len rest breaks true ok none whole = nothing_left len rest breaks [] none ok
 at_end len rest breaks false ok none whole = absurd cc
 
-adds_from : (len rest breaks : ℕ) (answers : List Answer) → breaks ≤ MAX_BREAKS → fold (after_answer len) (going rest breaks) answers ≡ Whole → AddsFrom len rest breaks answers
+adds_from : (len rest breaks : ℕ) (answers : List TransferAnswer) → breaks ≤ MAX_BREAKS → fold (after_answer len) (going rest breaks) answers ≡ Whole → AddsFrom len rest breaks answers
 adds_from len rest breaks [] ok whole = at_end len rest breaks (rest == 0) ok refl whole
 adds_from len rest breaks (a ∷ xs) ok whole = by_rest len rest breaks a xs (rest == 0) ok refl (λ r b o w. adds_from len r b xs o w) whole
 
@@ -119,7 +119,7 @@ and_both : (a b : Bool) → (a && b) ≡ true → (a ≡ true) × (b ≡ true)
 and_both true b e = (refl, e)
 and_both false b e = absurd (subst T (sym e) tt)
 
-module _ (len rest breaks : ℕ) (first behind : List Answer) (left : (rest == 0) ≡ false)
+module _ (len rest breaks : ℕ) (first behind : List TransferAnswer) (left : (rest == 0) ≡ false)
     (later : (rest' breaks' : ℕ) → sum_by (λ a. bytes_in a.result) first ≡ rest' → breaks' + sum_by (λ a. breaks_in a.result) first ≤ MAX_BREAKS → fold (after_answer len) (going rest' breaks') (first ++ behind) ≡ Whole) where
   whole_by_count : (n : ℕ) (none over : Bool) → (n == 0) ≡ none → nat_lt rest n ≡ over → nat_lt 0 (n + 0) ≡ true → n + sum_by (λ a. bytes_in a.result) first ≡ rest → breaks + (0 + sum_by (λ a. breaks_in a.result) first) ≤ MAX_BREAKS
       → fold (after_answer len) (cond none (Failed Nothing) (cond over (Failed BadCount) (going (rest - n) breaks))) (first ++ behind) ≡ Whole
@@ -139,7 +139,7 @@ module _ (len rest breaks : ℕ) (first behind : List Answer) (left : (rest == 0
   whole_by_result (pos n) some whole few = whole_by_count n (n == 0) (nat_lt rest n) refl refl some whole few
   whole_by_result (negsuc n) some whole few = whole_by_errno n (n + 1 == cast_unsigned w32 EINTR) (nat_lt breaks MAX_BREAKS) refl some whole few
 
-whole_by_rest : (len rest breaks : ℕ) (a : Answer) (first behind : List Answer) (none : Bool) → (rest == 0) ≡ none → is_good len a ≡ true
+whole_by_rest : (len rest breaks : ℕ) (a : TransferAnswer) (first behind : List TransferAnswer) (none : Bool) → (rest == 0) ≡ none → is_good len a ≡ true
     → bytes_in a.result + sum_by (λ x. bytes_in x.result) first ≡ rest → breaks + (breaks_in a.result + sum_by (λ x. breaks_in x.result) first) ≤ MAX_BREAKS
     → ((rest' breaks' : ℕ) → sum_by (λ x. bytes_in x.result) first ≡ rest' → breaks' + sum_by (λ x. breaks_in x.result) first ≤ MAX_BREAKS → fold (after_answer len) (going rest' breaks') (first ++ behind) ≡ Whole)
     → fold (after_answer len) (after_answer len (cond none Whole (Going (record { rest = rest; breaks = breaks }))) a) (first ++ behind) ≡ Whole
@@ -149,7 +149,7 @@ whole_by_rest len rest breaks a first behind false none good whole few later =
     ap (λ b. fold (after_answer len) (cond b (after_result (record { rest = rest; breaks = breaks }) a.result) (Failed BadCount)) (first ++ behind)) g.0
     ∙ whole_by_result len rest breaks first behind none later a.result g.1 whole few
 
-whole_from : (len rest breaks : ℕ) (first behind : List Answer) → AllByRecursion (λ a. is_good len a ≡ true) first → sum_by (λ a. bytes_in a.result) first ≡ rest → breaks + sum_by (λ a. breaks_in a.result) first ≤ MAX_BREAKS
+whole_from : (len rest breaks : ℕ) (first behind : List TransferAnswer) → AllByRecursion (λ a. is_good len a ≡ true) first → sum_by (λ a. bytes_in a.result) first ≡ rest → breaks + sum_by (λ a. breaks_in a.result) first ≤ MAX_BREAKS
     → fold (after_answer len) (going rest breaks) (first ++ behind) ≡ Whole
 whole_from len rest breaks [] behind good whole few = ap (λ r. fold (after_answer len) (going r breaks) behind) (sym whole) ∙ stays_whole len behind
 whole_from len rest breaks (a ∷ first) behind good whole few =

@@ -18,5 +18,5 @@ abbrev pub sync_entry : ℕ → FsyncFlags → Entry
 sync_entry file flags = fsync_words (record (new_fsync (Fixed file)) { flags = flags })
 
 -- without flags, all that belongs to the file is synced
-abbrev pub no_flags : FsyncFlags
-no_flags = record { 0 = 0 }
+abbrev pub sync_all_flags : FsyncFlags
+sync_all_flags = record { 0 = 0 }

@@ -10,7 +10,7 @@ use Rattle.rent_fs.specs.declared.answers.Progress.TheVariants.{Going, Whole, Fa
 use Rattle.rent_fs.specs.declared.answers.WholeFault.TheVariants.{Os, Nothing, Interrupted, BadCount}
 
 -- an operation's result, and the length of the buffer that came back
-pub record Answer : Type 0 where
+pub record TransferAnswer : Type 0 where
   pub result : ℤ
   pub length : ℕ
 
@@ -36,13 +36,13 @@ after_result left (pos n) = after_count left n
 after_result left (negsuc n) = after_error left (n + 1)
 
 -- one answer, where a buffer of this length was lent
-abbrev pub after_answer : ℕ → Progress → Answer → Progress
+abbrev pub after_answer : ℕ → Progress → TransferAnswer → Progress
 after_answer len (Going left) a = if a.length == len then after_result left a.result else Failed BadCount
 after_answer len Whole a = Whole
 after_answer len (Failed fault) a = Failed fault
 
 -- all answers in turn, from a whole buffer of this length on
-abbrev pub progress_of : ℕ → List Answer → Progress
+abbrev pub progress_of : ℕ → List TransferAnswer → Progress
 progress_of len answers = fold (after_answer len) (going len 0) answers
 
 abbrev pub is_going : Progress → Bool

@@ -1,7 +1,7 @@
 //! How far a whole buffer has come, by the answers of its operations.
 
 ghost use Rattle.std.specs.Prelude.{◌≡◌, ◌++◌, ◌∷◌, [], List, true};
-ghost use Rattle.rent_fs.specs.WholeBuffer.{Answer, after_answer, after_break, after_count, after_error, is_going, progress_of};
+ghost use Rattle.rent_fs.specs.WholeBuffer.{TransferAnswer, after_answer, after_break, after_count, after_error, is_going, progress_of};
 
 use uring_base::errno::EINTR;
 
@@ -83,7 +83,7 @@ fn after_error(left: Left, errno: u32) -> Progress
 /// back of one of length `len`.
 pub fn after_answer(len: u32, left: Left, code: i32, came_back: usize) -> Progress
     ensures step { result ≡ after_answer len (Progress.Going left) (record { result = code; length = came_back }) }
-    ensures whole { (earlier : List Answer) → progress_of len earlier ≡ Progress.Going left → result ≡ progress_of len (earlier ++ record { result = code; length = came_back } ∷ []) }
+    ensures whole { (earlier : List TransferAnswer) → progress_of len earlier ≡ Progress.Going left → result ≡ progress_of len (earlier ++ record { result = code; length = came_back } ∷ []) }
     ensures lent { is_going result ≡ true → came_back ≡ len }
 {
     if came_back != len as usize {

@@ -4,7 +4,7 @@ ghost use Rattle.std.specs.Prelude.{◌≡◌, ◌+◌, ◌-◌, ◌^◌, ◌<�
 ghost use Rattle.uring_base.specs.declared.limits.TheConstants.{MAX_BUFFER};
 ghost use Rattle.rent_engine.specs.declared.one_op.Stage.TheVariants.{Offers};
 ghost use Rattle.rent_engine.specs.OneOp.{addressed};
-ghost use Rattle.rent_fs.specs.Entries.{no_flags, read_entry, sync_entry, write_entry};
+ghost use Rattle.rent_fs.specs.Entries.{sync_all_flags, read_entry, sync_entry, write_entry};
 
 use crate::read_at::{ReadAt, read_at};
 use crate::read_exact_at::{ReadExactAt, read_exact_at};
@@ -84,7 +84,7 @@ impl File {
     /// Brings all that belongs to the file to its device, as `fsync` does. Nothing is asked for
     /// until the state is polled.
     pub fn sync_all(&self) -> Sync
-        ensures { result.op ≡ Offers (record { number = None; entry = sync_entry (file_number self.now) no_flags; from = 0; buf = None }) }
+        ensures { result.op ≡ Offers (record { number = None; entry = sync_entry (file_number self.now) sync_all_flags; from = 0; buf = None }) }
     {
         sync_all(self.number)
     }

@@ -2,7 +2,7 @@
 
 ghost use Rattle.std.specs.Prelude.{◌≡◌, None};
 ghost use Rattle.rent_engine.specs.declared.one_op.Stage.TheVariants.{Offers};
-ghost use Rattle.rent_fs.specs.Entries.{no_flags, sync_entry};
+ghost use Rattle.rent_fs.specs.Entries.{sync_all_flags, sync_entry};
 
 use crate::error::FsError;
 use crate::synced::synced;
@@ -34,7 +34,7 @@ impl OpKind for Syncing {
 
 /// A sync of all that belongs to a file.
 pub(crate) fn sync_all(file: u32) -> Sync
-    ensures { result.op ≡ Offers (record { number = None; entry = sync_entry file no_flags; from = 0; buf = None }) }
+    ensures { result.op ≡ Offers (record { number = None; entry = sync_entry file sync_all_flags; from = 0; buf = None }) }
 {
     SingleOp::new(Fsync::new(Fixed(file)).build(), None, Syncing)
 }

@@ -6,6 +6,8 @@ pub mod Marked
 pub mod Parts
 pub mod Joining
 pub mod Endings
+pub mod Rising
+pub mod Spread
 pub mod Matching
 pub mod Members
 pub mod Depth

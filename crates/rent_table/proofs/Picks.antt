@@ -37,6 +37,11 @@ find_place (e ∷ es) q = ap (λ b. cond b (Some e.1) (find nat_cmp q es)) (unsi
 pub get-at : {X V : Type 0} (pick : X → Option V) (es : List (ℕ × X)) (q : ℕ) → get (picked pick es) q ≡ option_and_then pick (indexed_place es q)
 get-at pick es q = get-picked pick es q ∙ ap (option_and_then pick) (find_place es q)
 
+-- nothing is picked of no entries
+pub nothing_at : {X V : Type 0} (pick : X → Option V) (es : List (ℕ × X)) (q : ℕ) → length es ≡ 0 → get (picked pick es) q ≡ None
+nothing_at pick [] q e = get-empty nat_cmp q
+nothing_at pick (x ∷ es) q e = absurd (omega (arith, e))
+
 -- by the entries of a map
 pub get-part : {X V : Type 0} (pick : X → Option V) (m : FinMap nat_cmp X) (q : ℕ) → get (picked pick (entries m)) q ≡ option_and_then pick (get m q)
 get-part pick m q = get-picked pick (entries m) q ∙ ap (option_and_then pick) (sym (get-entries m q))

@@ -1,3 +1,4 @@
+pub mod Consistent
 pub mod JoinedHandles
 pub mod Joins
 pub mod Kept
@@ -6,9 +7,9 @@ pub mod Links
 pub mod Lists
 pub mod NumberedPlaces
 pub mod NumberedSlab
+pub mod NumberedValues
 pub mod Ops
 pub mod QuietEnds
-pub mod Sound
 pub mod Steps
 pub mod Table
 pub mod Waiting

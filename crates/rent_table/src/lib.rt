@@ -7,6 +7,7 @@ pub mod laws;
 mod lifecycles;
 mod numbered_places;
 mod numbered_slab;
+mod numbered_values;
 mod operations;
 mod ops;
 mod quiet_ends;

@@ -17,7 +17,7 @@ use std::marker::Model;
 /// is taken.
 #[derive(Drop)]
 pub(crate) struct Lifecycles {
-    slab: NumberedPlaces<Lifecycle>,
+    places: NumberedPlaces<Lifecycle>,
     in_flight: usize,
 }
 
@@ -30,9 +30,9 @@ impl Model for Lifecycles {
 
     ghost coded = { kept_code };
 
-    ghost view = { λ o. record { ops = ops_of o.slab.entries; spare = o.slab.spare } };
+    ghost view = { λ o. record { ops = ops_of o.places.entries; spare = o.places.spare } };
 
-    ghost invariant = { λ o. o.in_flight ≡ len (ops_of o.slab.entries).in_flight };
+    ghost invariant = { λ o. o.in_flight ≡ len (ops_of o.places.entries).in_flight };
 }
 
 impl Lifecycles {
@@ -40,7 +40,7 @@ impl Lifecycles {
         ensures { result.ops ≡ no_ops }
     {
         Lifecycles {
-            slab: NumberedPlaces::new(alloc),
+            places: NumberedPlaces::new(alloc),
             in_flight: 0,
         }
     }
@@ -56,7 +56,7 @@ impl Lifecycles {
     pub(crate) fn knows(&self, number: u64) -> bool
         ensures { result ≡ knows self.now.ops number }
     {
-        self.slab.contains(number)
+        self.places.contains(number)
     }
 
     /// The least number that isn't known.
@@ -64,13 +64,13 @@ impl Lifecycles {
         ensures free { knows self.now.ops result ≡ false }
         ensures least { (n : ℕ) → n < result → knows self.now.ops n ≡ true }
     {
-        self.slab.least_absent()
+        self.places.least_absent()
     }
 
     pub(crate) fn flight(&self, number: u64) -> Option<Flight>
         ensures { result ≡ flight_at self.now.ops number }
     {
-        match self.slab.get(number) {
+        match self.places.get(number) {
             Some(Lifecycle::InFlight(flight, _)) => Some(*flight),
             Some(Lifecycle::Done(_)) => None,
             None => None,
@@ -94,7 +94,7 @@ impl Lifecycles {
         ensures succeeds { 0 < more → more ≤ self.old.spare → IsOk result }
         ensures spare { self.old.spare ≤ self.new.spare }
     {
-        self.slab.reserve(more)
+        self.places.reserve(more)
     }
 
     /// Puts an operation in flight.
@@ -111,7 +111,7 @@ impl Lifecycles {
             forgotten,
             next,
         };
-        self.slab
+        self.places
             .insert(number, Lifecycle::InFlight(flight, Joins::none()));
         self.in_flight += 1;
     }
@@ -135,7 +135,7 @@ impl Lifecycles {
         ensures spare { self.old.spare ≤ self.new.spare }
     {
         self.in_flight -= 1;
-        self.slab.replace(number, Lifecycle::Done(outcome));
+        self.places.replace(number, Lifecycle::Done(outcome));
     }
 
     fn discard(&mut self, number: u64)
@@ -144,7 +144,7 @@ impl Lifecycles {
         ensures spare { self.old.spare ≤ self.new.spare }
     {
         self.in_flight -= 1;
-        self.slab.remove(number);
+        self.places.remove(number);
     }
 
     /// Takes out what is resolved.
@@ -154,7 +154,7 @@ impl Lifecycles {
         ensures ops { self.new.ops ≡ record self.old.ops { done = remove self.old.ops.done number } }
         ensures spare { self.old.spare ≤ self.new.spare }
     {
-        match self.slab.remove(number) {
+        match self.places.remove(number) {
             Some(Lifecycle::Done(done)) => Some(done),
             Some(Lifecycle::InFlight(_, _)) => unreachable!(),
             None => None,
@@ -195,7 +195,7 @@ impl Lifecycles {
         ensures spare { self.new.spare ≡ self.old.spare }
     {
         let flying = Lifecycle::InFlight(flight, Joins::none());
-        match self.slab.exchange(number, flying) {
+        match self.places.exchange(number, flying) {
             Some(Lifecycle::InFlight(_, joins)) => joins,
             Some(Lifecycle::Done(_)) => unreachable!(),
             None => unreachable!(),
@@ -209,7 +209,7 @@ impl Lifecycles {
         ensures ops { self.new.ops ≡ record self.old.ops { in_flight = insert self.old.ops.in_flight number flight; joins = with_list number joins self.old.ops.joins } }
         ensures spare { self.new.spare ≡ self.old.spare }
     {
-        self.slab
+        self.places
             .replace(number, Lifecycle::InFlight(flight, joins));
     }
 
@@ -249,7 +249,7 @@ impl Lifecycles {
     fn is_joined(&self, handle: u64, number: u64) -> bool
         ensures { result ≡ is_joined self.now.ops handle number }
     {
-        match self.slab.get(number) {
+        match self.places.get(number) {
             Some(Lifecycle::InFlight(_, joins)) => joins.has(handle),
             Some(Lifecycle::Done(_)) => false,
             None => false,
@@ -260,7 +260,7 @@ impl Lifecycles {
     pub(crate) fn joined(&self, alloc: Global, handle: u64) -> Result<Vec<u64>, AllocError>
         ensures { IfOk result (λ numbers. AreJoined self.now.ops handle numbers.items) }
     {
-        let mut numbers = self.slab.numbers(alloc)?;
+        let mut numbers = self.places.numbers(alloc)?;
         numbers.retain(|number| self.is_joined(handle, *number));
         Ok(numbers)
     }

@@ -7,7 +7,7 @@ ghost use Rattle.rent_table.specs.Lists.{has};
 ghost use Rattle.rent_table.specs.NumberedSlab.{at};
 ghost use Rattle.rent_table.specs.NumberedPlaces.{AreMarkedBelow, AreUnmarkedFrom};
 
-use crate::numbered_slab::NumberedSlab;
+use crate::numbered_values::NumberedValues;
 use free_numbers::FreeNumbers;
 use std::alloc::{AllocError, Global};
 use std::marker::Model;
@@ -16,7 +16,7 @@ use std::marker::Model;
 /// above the count of the values, so the least number that has none is below it.
 #[derive(Drop)]
 pub(crate) struct NumberedPlaces<T> {
-    slab: NumberedSlab<T>,
+    values: NumberedValues<T>,
     numbers: FreeNumbers,
 }
 
@@ -30,9 +30,9 @@ impl<T> Model for NumberedPlaces<T> {
 
     ghost coded = { contents_code T.code };
 
-    ghost view = { λ p. record { entries = p.slab.entries; spare = min p.slab.spare (length p.numbers - (len p.slab.entries + 1)) } };
+    ghost view = { λ p. record { entries = p.values.entries; spare = min p.values.spare (length p.numbers - (len p.values.entries + 1)) } };
 
-    ghost invariant = { λ p. AreMarked p.slab.entries p.numbers };
+    ghost invariant = { λ p. AreMarked p.values.entries p.numbers };
 }
 
 impl<T> NumberedPlaces<T> {
@@ -40,7 +40,7 @@ impl<T> NumberedPlaces<T> {
         ensures { result.entries ≡ empty }
     {
         NumberedPlaces {
-            slab: NumberedSlab::new(alloc),
+            values: NumberedValues::new(alloc),
             numbers: FreeNumbers::new(alloc),
         }
     }
@@ -48,13 +48,13 @@ impl<T> NumberedPlaces<T> {
     pub(crate) fn get(&self, number: u64) -> Option<&T>
         ensures { option_copied result ≡ at self.now number }
     {
-        self.slab.get(number)
+        self.values.get(number)
     }
 
     pub(crate) fn contains(&self, number: u64) -> bool
         ensures { result ≡ is_some (at self.now number) }
     {
-        self.slab.contains(number)
+        self.values.contains(number)
     }
 
     /// The numbers that have values, in rising order.
@@ -62,7 +62,7 @@ impl<T> NumberedPlaces<T> {
         ensures each { IfOk result (λ numbers. (n : ℕ) → has n numbers.items ≡ is_some (at self.now n)) }
         ensures rising { IfOk result (λ numbers. IsStrictlyIncreasing numbers.items) }
     {
-        self.slab.numbers(alloc)
+        self.values.numbers(alloc)
     }
 
     /// The least number that has no value.
@@ -85,21 +85,23 @@ impl<T> NumberedPlaces<T> {
         ensures fits { OnOk result (len self.new.entries + more < 2 ^ 64) }
     {
         let limit = self.numbers.limit();
-        self.slab.reserve(more)?;
-        let all = self.slab.len() + more;
+        self.values.reserve(more)?;
+        let all = self.values.len() + more;
         self.numbers.grow(all.checked_add(1).ok_or(AllocError)?)?;
-        take_known(&self.slab, limit, &mut self.numbers);
+        take_known(&self.values, limit, &mut self.numbers);
         Ok(())
     }
 
     /// Puts a value under a number that has none.
     pub(crate) fn insert(&mut self, number: u64, value: T)
+    where
+        T: Drop,
         requires absent { at self.old number ≡ None }
         requires room { 0 < self.old.spare }
         ensures entries { self.new.entries ≡ insert self.old.entries number value }
         ensures spare { self.old.spare ≤ self.new.spare + 1 }
     {
-        self.slab.insert(number, value);
+        self.values.insert(number, value);
         self.numbers.take(number);
     }
 
@@ -111,7 +113,7 @@ impl<T> NumberedPlaces<T> {
         ensures entries { self.new.entries ≡ insert self.old.entries number value }
         ensures spare { self.new.spare ≡ self.old.spare }
     {
-        self.slab.replace(number, value);
+        self.values.replace(number, value);
     }
 
     /// Puts a value in place of the one that a number has, if it has one, and gives that one back.
@@ -122,7 +124,7 @@ impl<T> NumberedPlaces<T> {
         ensures entries { self.new.entries ≡ (if is_some (at self.old number) then insert self.old.entries number value else self.old.entries) }
         ensures spare { self.new.spare ≡ self.old.spare }
     {
-        self.slab.exchange(number, value)
+        self.values.exchange(number, value)
     }
 
     pub(crate) fn remove(&mut self, number: u64) -> Option<T>
@@ -131,19 +133,19 @@ impl<T> NumberedPlaces<T> {
         ensures spare { self.old.spare ≤ self.new.spare }
     {
         self.numbers.free(number);
-        self.slab.remove(number)
+        self.values.remove(number)
     }
 }
 
 /// Takes each number that has a value, of those from one on that are below the limit.
-fn take_known<T>(slab: &NumberedSlab<T>, from: usize, numbers: &mut FreeNumbers)
-    requires below { AreMarkedBelow from slab.now.entries numbers.old }
+fn take_known<T>(values: &NumberedValues<T>, from: usize, numbers: &mut FreeNumbers)
+    requires below { AreMarkedBelow from values.now.entries numbers.old }
     requires above { AreUnmarkedFrom from numbers.old }
-    ensures marks { AreMarkedBelow (length numbers.new) slab.now.entries numbers.new }
+    ensures marks { AreMarkedBelow (length numbers.new) values.now.entries numbers.new }
     ensures limit { length numbers.new ≡ length numbers.old }
 {
     for number in from..numbers.limit() {
-        if slab.contains(number as u64) {
+        if values.contains(number as u64) {
             numbers.take(number as u64);
         }
     }

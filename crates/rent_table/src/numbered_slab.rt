@@ -53,6 +53,10 @@ impl<T> NumberedSlab<T> {
     pub(crate) fn get(&self, number: u64) -> Option<&T>
         ensures { option_copied result ≡ at self.now number }
     {
+        // A search of an empty index would cost as much as one of a full index.
+        if self.index.is_empty() {
+            return None;
+        }
         match self.index.get(&number) {
             Some(place) => self.places.get(*place),
             None => None,
@@ -141,6 +145,9 @@ impl<T> NumberedSlab<T> {
         ensures entries { self.new.entries ≡ remove self.old.entries number }
         ensures spare { self.old.spare ≤ self.new.spare }
     {
+        if self.index.is_empty() {
+            return None;
+        }
         match self.index.remove(&number) {
             Some(place) => self.places.try_remove(place),
             None => None,

@@ -34,7 +34,7 @@ pub struct Operations {
 impl Model for Operations {
     ghost use Rattle.std.specs.Prelude.{min, ◌-◌, vec_capacity};
     ghost use Rattle.std.specs.FinMap.{len};
-    ghost use Rattle.rent_table.specs.Sound.{IsSound};
+    ghost use Rattle.rent_table.specs.Consistent.{IsConsistent};
     ghost use Rattle.rent_table.specs.Table.{Table, table_code};
 
     ghost Value = { Table };
@@ -43,7 +43,7 @@ impl Model for Operations {
 
     ghost view = { λ o. record { ops = o.lifecycles.ops; steps = o.steps.steps; handles = o.canceled.items; spare = min o.lifecycles.spare (min o.waiters.spare (vec_capacity o.work - len o.lifecycles.ops.in_flight)); step_room = o.steps.room } };
 
-    ghost invariant = { λ o. IsSound o.lifecycles.ops o.waiters.next o.work.items (vec_capacity o.work) o.steps.steps };
+    ghost invariant = { λ o. IsConsistent o.lifecycles.ops o.waiters.next o.work.items (vec_capacity o.work) o.steps.steps };
 }
 
 impl Operations {

@@ -6,7 +6,7 @@ use Rattle.rent_table.specs.declared.ops.Flight.{Flight}
 use Rattle.std.specs.Ordering.{nat_cmp}
 use Rattle.std.specs.FinMap.{get-empty}
 use Rattle.rent_table.specs.Ops.{Ops, no_ops, flight_at, done_at, knows, started}
-use Rattle.rent_engine.specs.Engines.{posting}
+use Rattle.rent_engine.specs.Engines.{without_skip_success}
 use Rattle.uring_base.specs.declared.squeue.Entry.{Entry}
 use Rattle.uring_model.specs.declared.jobs.Link.{Link}
 use Rattle.uring_model.specs.declared.jobs.Link.TheVariants.{Free, Soft, Hard}
@@ -34,7 +34,7 @@ flagged : (e : Entry) (n : ℕ) (bits bits' : ℕ) → bits ≡ bits' → ◌≡
 flagged e n bits bits' h = λ i. record e { flags = h i; user_data = n }
 
 -- those of a drain and of a link lack SKIP_SUCCESS
-marked : (e : Entry) (n : ℕ) (drain : Bool) (link : Link) → (e.flags ≡ 0) ⊎ (e.flags ≡ 1) → ◌≡◌ {A = Entry} (record e { flags = posting (bit_or e.flags (mark_bits drain link)); user_data = n }) (record (with_link link (with_drain drain e)) { user_data = n })
+marked : (e : Entry) (n : ℕ) (drain : Bool) (link : Link) → (e.flags ≡ 0) ⊎ (e.flags ≡ 1) → ◌≡◌ {A = Entry} (record e { flags = without_skip_success (bit_or e.flags (mark_bits drain link)); user_data = n }) (record (with_link link (with_drain drain e)) { user_data = n })
 marked e n true Free (inl h) = flagged e n _ _ (rw h refl)
 marked e n true Free (inr h) = flagged e n _ _ (rw h refl)
 marked e n true Soft (inl h) = flagged e n _ _ (rw h refl)

@@ -7,7 +7,7 @@ use Rattle.ring_traits.specs.Lists.{Lists, Becomes, small}
 use Rattle.uring_model.specs.declared.jobs.JobKind.{JobKind}
 use Rattle.uring_model.specs.declared.jobs.Link.{Link}
 use Rattle.uring_model.specs.declared.jobs.Link.TheVariants.{Free, Soft, Hard}
-use Rattle.rent_engine.specs.Engines.{posting}
+use Rattle.rent_engine.specs.Engines.{without_skip_success}
 use Rattle.rent_engine.specs.declared.ops.OpPoll.{OpPoll}
 use Rattle.rent_engine.specs.declared.ops.OpPoll.TheVariants as polls
 use Rattle.rent_table.specs.Ops.{Ops, done_at, knows, started, taken_out}
@@ -33,7 +33,7 @@ mark_bits drain link = bit_or (if drain then bits_in IO_DRAIN else 0) (link_bit 
 
 -- the entry of job n with these flags added, as an engine starts it
 abbrev pub with_marks : ℕ → JobKind → ℕ → Entry
-with_marks n kind bits = record (job_words n kind) { flags = posting (bit_or (job_words n kind).flags bits); user_data = n }
+with_marks n kind bits = record (job_words n kind) { flags = without_skip_success (bit_or (job_words n kind).flags bits); user_data = n }
 
 -- The job's entry was offered under its number, with its buffer lent, and its operation is in flight.
 pub record IsBegun {R : Type 0} (lists : R → Option Lists) (room waiting : R → ℕ) (n : ℕ) (kind : JobKind) (bits : ℕ) (before after : R) (ops ops' : Ops) (op : JobOp) : Type 0 where

@@ -25,8 +25,8 @@ timespec_of d = record {
 abbrev pub new_open_how : OpenHow
 new_open_how = record { flags = 0; mode = 0; resolve = 0 }
 
-abbrev pub new_futex_wait : FutexWaitV
-new_futex_wait = record { val = 0; uaddr = 0; flags = 0 }
+abbrev pub new_futex_waitv : FutexWaitV
+new_futex_waitv = record { val = 0; uaddr = 0; flags = 0 }
 
 abbrev pub new_napi : Napi
 new_napi = record { busy_poll_timeout = 0; prefer_busy_poll = false; tracking = TRACKING_DYNAMIC }

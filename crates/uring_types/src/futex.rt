@@ -1,7 +1,7 @@
 //! One futex of those that are waited for together.
 
 ghost use Rattle.std.specs.Prelude.{◌≡◌};
-ghost use Rattle.uring_types.specs.New.{new_futex_wait};
+ghost use Rattle.uring_types.specs.New.{new_futex_waitv};
 
 /// One futex of a list that `futex_waitv` waits for.
 #[derive(Clone, Copy)]
@@ -14,7 +14,7 @@ pub struct FutexWaitV {
 impl FutexWaitV {
     /// All 0.
     pub fn new() -> FutexWaitV
-        ensures { result ≡ new_futex_wait }
+        ensures { result ≡ new_futex_waitv }
     {
         FutexWaitV {
             val: 0,
@@ -67,7 +67,7 @@ impl FutexWaitV {
 }
 
 impl Default for FutexWaitV {
-    ghost is_default = { λ wait. wait ≡ new_futex_wait };
+    ghost is_default = { λ wait. wait ≡ new_futex_waitv };
 
     fn default() -> FutexWaitV {
         FutexWaitV::new()

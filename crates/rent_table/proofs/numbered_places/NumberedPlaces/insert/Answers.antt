@@ -15,5 +15,5 @@ pub returns-clause-spare : goal.returns-clause-spare
 returns-clause-spare g c =
     let new = ap (λ t. is_some (at t c.args.number)) c.self.view_is ∙ ap is_some c.requires.absent in
     let limit = ap length c.take.ensures ∙ length-set c.self.inside.numbers c.args.number true in
-    let count = ap len c.insert.ensures.entries ∙ len-added c.self.inside.slab.entries c.args.number c.args.value new in
+    let count = ap len c.insert.ensures.entries ∙ len-added c.self.inside.values.entries c.args.number c.args.value new in
     spare-added _ _ _ _ _ _ _ (ap (λ t. t.spare) c.self.view_is) c.insert.ensures.spare limit count

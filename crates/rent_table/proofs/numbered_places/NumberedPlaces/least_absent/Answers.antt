@@ -6,5 +6,5 @@ use Rattle.rent_table.proofs.numbered_places.NumberedPlaces.least_absent.Goals a
 
 pub returns-in-None-clause-absent : goal.returns-in-None-clause-absent
 returns-in-None-clause-absent g c =
-    let m = c.self.inside.slab.entries in
+    let m = c.self.inside.values.entries in
     ap (λ t. is_some (at t 0)) (sym c.self.view_is) ∙ none_there m 0 (none_where_all_taken m c.self.inside.numbers c.self.invariant c.in-None.ensures.none)

@@ -10,5 +10,5 @@ pub returns-clause-spare : goal.returns-clause-spare
 returns-clause-spare g c =
     let limit = ap length c.free.ensures ∙ length-set c.self.inside.numbers c.args.number false in
     let count = ap len c.remove.ensures.entries in
-    let fewer = len-left c.self.inside.slab.entries c.args.number in
+    let fewer = len-left c.self.inside.values.entries c.args.number in
     spare-left _ _ _ _ _ _ _ (ap (λ t. t.spare) c.self.view_is) c.remove.ensures.spare (omega (arith, limit)) (omega (arith, count, fewer))

@@ -13,5 +13,5 @@ invariant_of-self g c =
 pub returns-clause-spare : goal.returns-clause-spare
 returns-clause-spare g c =
     let here = ap (λ t. is_some (at t c.args.number)) c.self.view_is ∙ c.requires in
-    let count = ap len c.replace.ensures.entries ∙ len-changed c.self.inside.slab.entries c.args.number c.args.value here in
+    let count = ap len c.replace.ensures.entries ∙ len-changed c.self.inside.values.entries c.args.number c.args.value here in
     (λ i. min (c.replace.ensures.spare i) (length c.self.inside.numbers - (count i + 1))) ∙ ap (λ t. t.spare) c.self.view_is
