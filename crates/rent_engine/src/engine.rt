@@ -49,8 +49,8 @@ impl<R: UserEnds> Engine<R> {
         }
     }
 
-    /// The least number that is neither in flight nor resolved and unpolled. It tries one number
-    /// after another.
+    /// The least number that is neither in flight nor resolved and unpolled. It takes at most as
+    /// many steps as the room for numbers has binary digits.
     pub fn fresh(&self) -> u64
         ensures free { knows self.now.ops result ≡ false }
         ensures least { (n : ℕ) → n < result → knows self.now.ops n ≡ true }
