@@ -3,8 +3,8 @@
 
 usage: gate_time.py [COMMAND..]
 
-COMMAND is `rt ci --anew` unless said. Once a second the processor time of each process `rattle` of this
-checkout is read from /proc; a process that ends between two looks is counted up to the last look. The
+COMMAND is `rt ci --anew` unless said. Once a second the processor time of each process `rattle` that the
+command started is read from /proc; a process that ends between two looks is counted up to the last look. The
 table is printed as Markdown: seconds of processor time (user plus system) for the proof of each crate,
 for the proof of its tests, and for its must-fail edits; and the time of the whole run, as the system
 counts it. What `rt` itself, the built programs and the linker take is in the whole alone.
@@ -46,17 +46,21 @@ def processes():
         yield f"{name}:{fields[19]}", folder, words, seconds
 
 
-def kind_of(folder, words, root):
-    if not folder.startswith(os.path.join(root, "crates")):
+def kind_of(folder, words, root, run):
+    """What a process does for the run `run` of `rt ci`, by the folder that it works in; None if it belongs to another."""
+    if f"rt-edit-{run}-" in folder:
         return "edits"
-    return "tests" if "--test" in words else "proof"
+    if folder.startswith(os.path.join(root, "crates")) or f"rt-copy-{run}-" in folder:
+        return "tests" if "--test" in words else "proof"
+    return None
 
 
-def sample(seen, root):
+def sample(seen, root, run):
     for key, folder, words, seconds in processes():
-        if "--crate-name" in words:
+        kind = kind_of(folder, words, root, run)
+        if kind and "--crate-name" in words:
             crate = words[words.index("--crate-name") + 1]
-            seen[key] = (crate, kind_of(folder, words, root), seconds)
+            seen[key] = (crate, kind, seconds)
 
 
 def table(seen):
@@ -81,7 +85,7 @@ def main():
     start = time.monotonic()
     run = subprocess.Popen(command, cwd=root)
     while run.poll() is None:
-        sample(seen, root)
+        sample(seen, root, run.pid)
         time.sleep(1)
     minutes = (time.monotonic() - start) / 60
     used = resource.getrusage(resource.RUSAGE_CHILDREN)
