@@ -1,5 +1,9 @@
 mod engines;
+mod executors;
 mod files;
+mod handles;
+mod kept_steps;
 mod numbers;
 mod operations;
+mod quiet_ends;
 mod whole_buffers;

@@ -1,3 +1,4 @@
+use crate::tests::quiet_ends::quiet_under;
 use bitflags::Flags as _;
 use partner_traits::Seedable;
 use rent_engine::{
@@ -117,6 +118,7 @@ fn each_call_of_the_engine(rt: HostRuntime) -> Result<(), Fail> {
     assert!(rt; engine.turn(alloc, &mut partner).is_ok());
     assert!(rt; matches!(op.poll(alloc, &mut engine), Poll::Ready(OneAnswer::Done(_))));
     assert!(rt; op.is_done());
+    assert!(rt; quiet_under(alloc, &mut engine, 9, 10).is_ok());
     Ok(())
 }
 

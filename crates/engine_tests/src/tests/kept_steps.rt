@@ -1,0 +1,92 @@
+use crate::tests::engines::{assert_resolved, engine_of, nop_under};
+use bitflags::Flags as _;
+use rent_engine::{Engine, OpKey, StartFault, Step};
+use ring_traits::UserEnds;
+use std::alloc::{AllocError, Global};
+use std::process::Abort;
+use std::test::Fail;
+use uring_base::cqueue;
+use uring_partner::{HostilePartner, LoanPlan, Scripted};
+
+/// A partner that posts for number 5 in three turns: results 1 and 2, and with the last one 3.
+fn three_posts(alloc: Global) -> Result<HostilePartner, AllocError> {
+    let more = cqueue::Flags::MORE.bits();
+    let last = cqueue::Flags::empty().bits();
+    let mut script = Vec::new(alloc);
+    for (outcome, flags) in [(1, more), (2, more), (3, last)] {
+        script.push(Scripted::Post {
+            user_data: 5,
+            result: outcome,
+            flags,
+            loan: LoanPlan::Nothing,
+        })?;
+        script.push(Scripted::Turn)?;
+    }
+    Ok(HostilePartner::new(alloc, script))
+}
+
+/// Asserts that the operation was started, and forgets it.
+pub fn forget_started<R: UserEnds>(
+    rt: &impl Abort,
+    engine: &mut Engine<R>,
+    started: Result<OpKey, StartFault>,
+) {
+    match started {
+        Ok(key) => engine.forget(key),
+        Err(_fault) => assert!(rt; false, "not started"),
+    }
+}
+
+/// The step of number 5 with this result.
+fn step_with(outcome: i32) -> Step {
+    Step {
+        number: 5,
+        result: outcome,
+        flags: cqueue::Flags::MORE.bits(),
+    }
+}
+
+/// Two starts on a ring of two, with room for both.
+#[test]
+fn reserved_starts(rt: HostRuntime) -> Result<(), Fail> {
+    let alloc = rt.alloc();
+    let mut engine = engine_of(alloc, 2)?;
+    assert!(rt; engine.reserve(alloc, 2).is_ok());
+    assert!(rt; nop_under(alloc, &mut engine, 0).is_ok());
+    assert!(rt; nop_under(alloc, &mut engine, 1).is_ok());
+    Ok(())
+}
+
+/// An operation that was forgotten is in flight until its last completion, and keeps no step.
+#[test]
+fn forgotten_until_the_last(rt: HostRuntime) -> Result<(), Fail> {
+    let alloc = rt.alloc();
+    let mut engine = engine_of(alloc, 2)?;
+    let mut partner = three_posts(alloc)?;
+    let started = nop_under(alloc, &mut engine, 5);
+    forget_started(&rt, &mut engine, started);
+    for in_flight in [1, 1, 0] {
+        assert!(rt; engine.turn(alloc, &mut partner).is_ok());
+        assert_eq!(rt; engine.in_flight(), in_flight);
+        assert_eq!(rt; engine.next_step(5), None);
+    }
+    assert!(rt; nop_under(alloc, &mut engine, 5).is_ok());
+    Ok(())
+}
+
+/// The steps of an operation come out in order, and then its result.
+#[test]
+fn steps_then_the_result(rt: HostRuntime) -> Result<(), Fail> {
+    let alloc = rt.alloc();
+    let mut engine = engine_of(alloc, 2)?;
+    let mut partner = three_posts(alloc)?;
+    let started = nop_under(alloc, &mut engine, 5);
+    for _ in 0..3 {
+        assert!(rt; engine.turn(alloc, &mut partner).is_ok());
+    }
+    assert_eq!(rt; engine.next_step(5), Some(step_with(1)));
+    assert_eq!(rt; engine.next_step(5), Some(step_with(2)));
+    assert_eq!(rt; engine.next_step(5), None);
+    assert_resolved(&rt, &mut engine, started, 3);
+    Ok(())
+}
