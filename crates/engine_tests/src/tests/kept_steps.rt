@@ -1,12 +1,12 @@
-use crate::tests::engines::{assert_resolved, engine_of, nop_under};
+use crate::tests::helpers::{assert_resolved, engine_of, nop_under, start_nop};
 use bitflags::Flags as _;
-use rent_engine::{Engine, OpKey, StartFault, Step};
-use ring_traits::UserEnds;
+use rent_engine::{Engine, Step};
 use std::alloc::{AllocError, Global};
 use std::process::Abort;
 use std::test::Fail;
 use uring_base::cqueue;
 use uring_partner::{HostilePartner, LoanPlan, Scripted};
+use uring_ring::IoUring;
 
 /// A partner that posts for number 5 in three turns: results 1 and 2, and with the last one 3.
 fn three_posts(alloc: Global) -> Result<HostilePartner, AllocError> {
@@ -25,16 +25,10 @@ fn three_posts(alloc: Global) -> Result<HostilePartner, AllocError> {
     Ok(HostilePartner::new(alloc, script))
 }
 
-/// Asserts that the operation was started, and forgets it.
-pub fn forget_started<R: UserEnds>(
-    rt: &impl Abort,
-    engine: &mut Engine<R>,
-    started: Result<OpKey, StartFault>,
-) {
-    match started {
-        Ok(key) => engine.forget(key),
-        Err(_fault) => assert!(rt; false, "not started"),
-    }
+/// Starts number 5, and forgets it.
+fn start_forgotten(rt: &impl Abort, alloc: Global, engine: &mut Engine<IoUring>) {
+    let key = nop_under(alloc, engine, 5).expect(rt, "not started");
+    engine.forget(key);
 }
 
 /// The step of number 5 with this result.
@@ -52,8 +46,8 @@ fn reserved_starts(rt: HostRuntime) -> Result<(), Fail> {
     let alloc = rt.alloc();
     let mut engine = engine_of(alloc, 2)?;
     assert!(rt; engine.reserve(alloc, 2).is_ok());
-    assert!(rt; nop_under(alloc, &mut engine, 0).is_ok());
-    assert!(rt; nop_under(alloc, &mut engine, 1).is_ok());
+    start_nop(&rt, alloc, &mut engine, 0);
+    start_nop(&rt, alloc, &mut engine, 1);
     Ok(())
 }
 
@@ -61,32 +55,49 @@ fn reserved_starts(rt: HostRuntime) -> Result<(), Fail> {
 #[test]
 fn forgotten_until_the_last(rt: HostRuntime) -> Result<(), Fail> {
     let alloc = rt.alloc();
-    let mut engine = engine_of(alloc, 2)?;
     let mut partner = three_posts(alloc)?;
-    let started = nop_under(alloc, &mut engine, 5);
-    forget_started(&rt, &mut engine, started);
+    let mut engine = engine_of(alloc, 2)?;
+    start_forgotten(&rt, alloc, &mut engine);
+    turns_without_steps(&rt, alloc, &mut engine, &mut partner);
+    start_nop(&rt, alloc, &mut engine, 5);
+    Ok(())
+}
+
+fn turns_without_steps(
+    rt: &impl Abort,
+    alloc: Global,
+    engine: &mut Engine<IoUring>,
+    partner: &mut HostilePartner,
+) {
     for in_flight in [1, 1, 0] {
-        assert!(rt; engine.turn(alloc, &mut partner).is_ok());
+        assert!(rt; engine.turn(alloc, partner).is_ok());
         assert_eq!(rt; engine.in_flight(), in_flight);
         assert_eq!(rt; engine.next_step(5), None);
     }
-    assert!(rt; nop_under(alloc, &mut engine, 5).is_ok());
-    Ok(())
 }
 
 /// The steps of an operation come out in order, and then its result.
 #[test]
 fn steps_then_the_result(rt: HostRuntime) -> Result<(), Fail> {
     let alloc = rt.alloc();
-    let mut engine = engine_of(alloc, 2)?;
     let mut partner = three_posts(alloc)?;
-    let started = nop_under(alloc, &mut engine, 5);
+    let mut engine = engine_of(alloc, 2)?;
+    steps_in_order(&rt, alloc, &mut engine, &mut partner);
+    Ok(())
+}
+
+fn steps_in_order(
+    rt: &impl Abort,
+    alloc: Global,
+    engine: &mut Engine<IoUring>,
+    partner: &mut HostilePartner,
+) {
+    let started = nop_under(alloc, engine, 5);
     for _ in 0..3 {
-        assert!(rt; engine.turn(alloc, &mut partner).is_ok());
+        assert!(rt; engine.turn(alloc, partner).is_ok());
     }
     assert_eq!(rt; engine.next_step(5), Some(step_with(1)));
     assert_eq!(rt; engine.next_step(5), Some(step_with(2)));
     assert_eq!(rt; engine.next_step(5), None);
-    assert_resolved(&rt, &mut engine, started, 3);
-    Ok(())
+    assert_resolved(rt, engine, started, 3);
 }

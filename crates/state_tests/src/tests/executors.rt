@@ -1,0 +1,131 @@
+use crate::tests::helpers::{engine_of, put_bytes};
+use partner_traits::Partner;
+use rent_engine::{Engine, ExecFault, Executor, OpState};
+use rent_fs::{File, FsError, ReadAt};
+use std::alloc::Global;
+use std::process::Abort;
+use std::test::Fail;
+use uring_base::{Buf, Event};
+use uring_partner::MemoryPartner;
+use uring_ring::IoUring;
+
+/// Spawns a read of the whole of file 3 under a number, and asserts that this is its id.
+fn spawn_read(
+    rt: &impl Abort,
+    alloc: Global,
+    tasks: &mut Executor<ReadAt>,
+    number: u64,
+    id: usize,
+) {
+    let zeros = Buf::zeroed(alloc, 5).expect(rt, "memory");
+    let read = File::of_number(3).read_at(zeros, 0).with_number(number);
+    assert!(rt; !read.is_done());
+    assert_eq!(rt; tasks.spawn(alloc, read).ok(), Some(id));
+}
+
+/// Asserts that a task gave the whole of file 3.
+fn assert_read(rt: &impl Abort, output: Option<(Result<usize, FsError>, Buf)>) {
+    match output {
+        Some((count, buf)) => {
+            assert_eq!(rt; count, Ok(5));
+            assert_eq!(rt; buf.as_slice(), b"hello".as_slice());
+        }
+        None => assert!(rt; false, "no output"),
+    }
+}
+
+/// Each call that can find no memory answers otherwise where there is memory. A read needs one
+/// turn, and its output is there once.
+#[test]
+fn each_call_of_the_executor(rt: HostRuntime) -> Result<(), Fail> {
+    let alloc = rt.alloc();
+    let mut engine = engine_of(alloc, 2)?;
+    let mut partner = MemoryPartner::new(alloc);
+    put_bytes(&rt, alloc, &mut partner, b"hello");
+    let mut tasks = Executor::new(alloc);
+    spawn_read(&rt, alloc, &mut tasks, 7, 0);
+    run_one(&rt, alloc, &mut engine, &mut partner, &mut tasks);
+    take_one(&rt, &mut tasks);
+    Ok(())
+}
+
+/// A round and turns of an executor with one read.
+fn run_one(
+    rt: &impl Abort,
+    alloc: Global,
+    engine: &mut Engine<IoUring>,
+    partner: &mut MemoryPartner,
+    tasks: &mut Executor<ReadAt>,
+) {
+    assert_eq!(rt; tasks.round(alloc, engine), Ok(1));
+    assert_eq!(rt; tasks.run(alloc, engine, partner, 0), Err(ExecFault::Spent));
+    assert_eq!(rt; tasks.unfinished(), 1);
+    assert!(rt; tasks.take(0).is_none());
+    assert_eq!(rt; tasks.run(alloc, engine, partner, 1), Ok(1));
+    assert_eq!(rt; tasks.run(alloc, engine, partner, 1), Ok(0));
+}
+
+/// The output of the first task is there once.
+fn take_one(rt: &impl Abort, tasks: &mut Executor<ReadAt>) {
+    assert_read(rt, tasks.take(0));
+    assert!(rt; tasks.take(0).is_none());
+}
+
+/// Tasks are polled in rising id, whatever the numbers of their operations are. Ids go on rising.
+#[test]
+fn tasks_in_order(rt: HostRuntime) -> Result<(), Fail> {
+    let alloc = rt.alloc();
+    let mut engine = engine_of(alloc, 2)?;
+    let mut partner = MemoryPartner::new(alloc);
+    put_bytes(&rt, alloc, &mut partner, b"hello");
+    let mut tasks = Executor::new(alloc);
+    spawn_read(&rt, alloc, &mut tasks, 5, 0);
+    spawn_read(&rt, alloc, &mut tasks, 4, 1);
+    run_two(&rt, alloc, &mut engine, &mut partner, &mut tasks);
+    spawn_read(&rt, alloc, &mut tasks, 4, 2);
+    Ok(())
+}
+
+/// Two reads are taken in one turn, in the order of their ids.
+fn run_two(
+    rt: &impl Abort,
+    alloc: Global,
+    engine: &mut Engine<IoUring>,
+    partner: &mut MemoryPartner,
+    tasks: &mut Executor<ReadAt>,
+) {
+    assert_eq!(rt; tasks.run(alloc, engine, partner, 1), Ok(1));
+    assert_eq!(rt; partner.log_event(0), Event::Turn(2));
+    assert_eq!(rt; partner.log_event(1), Event::Take(5));
+    assert_eq!(rt; partner.log_event(2), Event::Take(4));
+    assert_read(rt, tasks.take(1));
+}
+
+/// A ring of one entry takes one read a turn.
+#[test]
+fn one_read_a_turn(rt: HostRuntime) -> Result<(), Fail> {
+    let alloc = rt.alloc();
+    let mut engine = engine_of(alloc, 1)?;
+    let mut partner = MemoryPartner::new(alloc);
+    put_bytes(&rt, alloc, &mut partner, b"hello");
+    let mut tasks = Executor::new(alloc);
+    spawn_read(&rt, alloc, &mut tasks, 0, 0);
+    spawn_read(&rt, alloc, &mut tasks, 1, 1);
+    spawn_read(&rt, alloc, &mut tasks, 2, 2);
+    run_three(&rt, alloc, &mut engine, &mut partner, &mut tasks);
+    Ok(())
+}
+
+fn run_three(
+    rt: &impl Abort,
+    alloc: Global,
+    engine: &mut Engine<IoUring>,
+    partner: &mut MemoryPartner,
+    tasks: &mut Executor<ReadAt>,
+) {
+    let spent = Err(ExecFault::Spent);
+    assert_eq!(rt; tasks.run(alloc, engine, partner, 2), spent);
+    assert_eq!(rt; tasks.unfinished(), 1);
+    assert_eq!(rt; tasks.run(alloc, engine, partner, 9), Ok(1));
+    assert_read(rt, tasks.take(2));
+}

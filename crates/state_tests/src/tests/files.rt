@@ -1,0 +1,252 @@
+use crate::tests::helpers::{assert_waits, engine_of, posting, put_bytes, wait_a_turn};
+use rent_engine::{Engine, EngineFault, OpState, Poll, StartFault};
+use rent_fs::{File, FsError, ReadAt, Sync};
+use std::alloc::Global;
+use std::fmt::Display;
+use std::process::Abort;
+use std::test::Fail;
+use uring_base::Buf;
+use uring_base::errno::{EBADF, EIO};
+use uring_base::squeue::Flags;
+use uring_partner::{HostilePartner, MemoryPartner};
+use uring_ring::IoUring;
+use uring_submit::SubmitError;
+
+/// A read of one byte of a file.
+fn read_of_one(rt: &impl Abort, alloc: Global, file: u32) -> ReadAt {
+    let zero = Buf::zeroed(alloc, 1).expect(rt, "memory");
+    File::of_number(file).read_at(zero, 0)
+}
+
+/// Asserts that a read or a write is done now, with this answer and these bytes.
+fn assert_gives(
+    rt: &impl Abort,
+    polled: Poll<(Result<usize, FsError>, Buf)>,
+    answer: Result<usize, FsError>,
+    bytes: &[u8],
+) {
+    match polled {
+        Poll::Ready((given, buf)) => {
+            assert_eq!(rt; given, answer);
+            assert_eq!(rt; buf.as_slice(), bytes);
+        }
+        Poll::Pending => assert!(rt; false, "pending"),
+    }
+}
+
+/// Asserts that the read is done at its next poll, with this answer and these bytes.
+fn assert_reads(
+    rt: &impl Abort,
+    alloc: Global,
+    engine: &mut Engine<IoUring>,
+    read: &mut ReadAt,
+    answer: Result<usize, FsError>,
+    bytes: &[u8],
+) {
+    assert!(rt; !read.is_done());
+    assert_gives(rt, read.poll(alloc, engine), answer, bytes);
+    assert!(rt; read.is_done());
+}
+
+/// Asserts that the sync is done at its next poll, with this answer.
+fn assert_syncs(
+    rt: &impl Abort,
+    alloc: Global,
+    engine: &mut Engine<IoUring>,
+    sync: &mut Sync,
+    answer: Result<(), FsError>,
+) {
+    assert!(rt; !sync.is_done());
+    match sync.poll(alloc, engine) {
+        Poll::Ready(given) => assert_eq!(rt; given, answer),
+        Poll::Pending => assert!(rt; false, "pending"),
+    }
+    assert!(rt; sync.is_done());
+}
+
+/// Each call that can find no memory answers otherwise where there is memory: what is written is
+/// read.
+#[test]
+fn each_call_of_the_files(rt: HostRuntime) -> Result<(), Fail> {
+    let alloc = rt.alloc();
+    let mut engine = engine_of(alloc, 2)?;
+    let mut partner = MemoryPartner::new(alloc);
+    put_bytes(&rt, alloc, &mut partner, b"");
+    write_hello(&rt, alloc, &mut engine, &mut partner);
+    read_the_last(&rt, alloc, &mut engine, &mut partner);
+    sync_both_ways(&rt, alloc, &mut engine, &mut partner);
+    Ok(())
+}
+
+fn write_hello(
+    rt: &impl Abort,
+    alloc: Global,
+    engine: &mut Engine<IoUring>,
+    partner: &mut MemoryPartner,
+) {
+    let bytes = Buf::from_slice(alloc, b"hello").expect(rt, "memory");
+    let mut write = File::of_number(3).write_at(bytes, 0);
+    wait_a_turn(rt, alloc, engine, partner, &mut write);
+    assert!(rt; !write.is_done());
+    assert_gives(rt, write.poll(alloc, engine), Ok(5), b"hello");
+}
+
+/// A read of three bytes finds one.
+fn read_the_last(
+    rt: &impl Abort,
+    alloc: Global,
+    engine: &mut Engine<IoUring>,
+    partner: &mut MemoryPartner,
+) {
+    let zeros = Buf::zeroed(alloc, 3).expect(rt, "memory");
+    let mut read = File::of_number(3).read_at(zeros, 4);
+    assert_waits(rt, alloc, engine, &mut read);
+    wait_a_turn(rt, alloc, engine, partner, &mut read);
+    assert_reads(rt, alloc, engine, &mut read, Ok(1), b"o\0\0");
+}
+
+fn sync_both_ways(
+    rt: &impl Abort,
+    alloc: Global,
+    engine: &mut Engine<IoUring>,
+    partner: &mut MemoryPartner,
+) {
+    let file = File::of_number(3);
+    for mut sync in [file.sync_all(), file.sync_data()] {
+        wait_a_turn(rt, alloc, engine, partner, &mut sync);
+        assert_syncs(rt, alloc, engine, &mut sync, Ok(()));
+    }
+}
+
+/// A state whose number is in use is done at once; one that finds the ring full waits.
+#[test]
+fn numbers_in_use(rt: HostRuntime) -> Result<(), Fail> {
+    let alloc = rt.alloc();
+    let mut engine = engine_of(alloc, 1)?;
+    let mut partner = MemoryPartner::new(alloc);
+    two_of_a_number(&rt, alloc, &mut engine, &mut partner);
+    Ok(())
+}
+
+fn two_of_a_number(
+    rt: &impl Abort,
+    alloc: Global,
+    engine: &mut Engine<IoUring>,
+    partner: &mut MemoryPartner,
+) {
+    let mut first = read_of_one(rt, alloc, 9).with_number(5);
+    assert_waits(rt, alloc, engine, &mut first);
+    let mut second = read_of_one(rt, alloc, 9).with_number(5);
+    let in_use = Err(FsError::KeyInUse);
+    assert_reads(rt, alloc, engine, &mut second, in_use, b"\0");
+    let mut third = read_of_one(rt, alloc, 9);
+    assert_waits(rt, alloc, engine, &mut third);
+    assert_eq!(rt; engine.in_flight(), 1);
+    assert!(rt; engine.turn(alloc, partner).is_ok());
+    let no_file = Err(FsError::Os(EBADF.cast_unsigned()));
+    assert_reads(rt, alloc, engine, &mut first, no_file, b"\0");
+    assert_waits(rt, alloc, engine, &mut third);
+    assert_eq!(rt; engine.in_flight(), 1);
+}
+
+/// A state that is polled on another engine than the one it began on is lost, with its buffer.
+#[test]
+fn lost_on_another_engine(rt: HostRuntime) -> Result<(), Fail> {
+    let alloc = rt.alloc();
+    assert_eq!(rt; File::of_number(3).number(), 3);
+    let mut one = engine_of(alloc, 1)?;
+    let mut other = engine_of(alloc, 1)?;
+    read_on_two(&rt, alloc, &mut one, &mut other);
+    Ok(())
+}
+
+fn read_on_two(
+    rt: &impl Abort,
+    alloc: Global,
+    one: &mut Engine<IoUring>,
+    other: &mut Engine<IoUring>,
+) {
+    let mut read = read_of_one(rt, alloc, 3);
+    assert_waits(rt, alloc, one, &mut read);
+    assert_reads(rt, alloc, other, &mut read, Err(FsError::KeyLost), b"");
+}
+
+/// A count above the buffer's length is told as it came, and so is an interruption.
+#[test]
+fn what_a_hostile_partner_tells(rt: HostRuntime) -> Result<(), Fail> {
+    let alloc = rt.alloc();
+    let mut partner = posting(alloc, &[1000, i32::MIN])?;
+    let mut engine = engine_of(alloc, 1)?;
+    for answer in [Ok(1000), Err(FsError::Os(i32::MIN.unsigned_abs()))] {
+        read_two(&rt, alloc, &mut engine, &mut partner, answer);
+    }
+    Ok(())
+}
+
+/// A read of two bytes gets this answer, and no byte.
+fn read_two(
+    rt: &impl Abort,
+    alloc: Global,
+    engine: &mut Engine<IoUring>,
+    partner: &mut HostilePartner,
+    answer: Result<usize, FsError>,
+) {
+    let zeros = Buf::zeroed(alloc, 2).expect(rt, "memory");
+    let mut read = File::of_number(3)
+        .read_at(zeros, 0)
+        .with_flags(Flags::ASYNC);
+    wait_a_turn(rt, alloc, engine, partner, &mut read);
+    assert_reads(rt, alloc, engine, &mut read, answer, b"\0\0");
+}
+
+/// A sync of a file that isn't there, of a number in use, and of another engine's operation.
+#[test]
+fn syncs_that_fail(rt: HostRuntime) -> Result<(), Fail> {
+    let alloc = rt.alloc();
+    let mut engine = engine_of(alloc, 2)?;
+    let mut other = engine_of(alloc, 2)?;
+    let mut partner = MemoryPartner::new(alloc);
+    three_syncs(&rt, alloc, &mut engine, &mut other, &mut partner);
+    Ok(())
+}
+
+fn three_syncs(
+    rt: &impl Abort,
+    alloc: Global,
+    engine: &mut Engine<IoUring>,
+    other: &mut Engine<IoUring>,
+    partner: &mut MemoryPartner,
+) {
+    let file = File::of_number(9);
+    let mut first = file.sync_data().with_number(5).with_flags(Flags::ASYNC);
+    assert_waits(rt, alloc, engine, &mut first);
+    let mut second = file.sync_all().with_number(5);
+    let in_use = Err(FsError::KeyInUse);
+    assert_syncs(rt, alloc, engine, &mut second, in_use);
+    let mut third = file.sync_all();
+    assert_waits(rt, alloc, engine, &mut third);
+    assert_syncs(rt, alloc, other, &mut third, Err(FsError::KeyLost));
+    assert!(rt; engine.turn(alloc, partner).is_ok());
+    let no_file = Err(FsError::Os(EBADF.cast_unsigned()));
+    assert_syncs(rt, alloc, engine, &mut first, no_file);
+}
+
+/// What the faults of each layer say, and that a partner's keeps its error number up to the top.
+#[test]
+fn texts_of_faults(rt: HostRuntime) -> Result<(), Fail> {
+    let alloc = rt.alloc();
+    let full = StartFault::RingFull(None);
+    assert_says(&rt, alloc, &full, "the submission ring is full");
+    let submit = SubmitError::Fault(EIO.cast_unsigned());
+    assert_says(&rt, alloc, &submit, "partner fault: error number 5");
+    let engine = EngineFault::from(submit);
+    assert_says(&rt, alloc, &engine, "partner fault: error number 5");
+    let file = FsError::from(engine);
+    assert_says(&rt, alloc, &file, "error number 5");
+    Ok(())
+}
+
+fn assert_says<T: Display>(rt: &impl Abort, alloc: Global, fault: &T, wanted: &str) {
+    let text = format!(in alloc; "{fault}").expect(rt, "memory");
+    assert_eq!(rt; text.as_str(), wanted);
+}

@@ -1,0 +1,205 @@
+use crate::tests::helpers::{assert_waits, engine_of, posting, put_bytes, wait_a_turn};
+use rent_engine::{Engine, OpState, Poll};
+use rent_fs::{File, FsError, WriteAllAt};
+use std::alloc::Global;
+use std::process::Abort;
+use std::test::Fail;
+use uring_base::Buf;
+use uring_base::errno::EINTR;
+use uring_partner::{HostilePartner, MemoryPartner};
+use uring_ring::IoUring;
+
+/// Asserts that the state is done now, with this answer and these bytes.
+fn assert_gives(
+    rt: &impl Abort,
+    polled: Poll<(Result<(), FsError>, Buf)>,
+    answer: Result<(), FsError>,
+    bytes: &[u8],
+) {
+    match polled {
+        Poll::Ready((given, buf)) => {
+            assert_eq!(rt; given, answer);
+            assert_eq!(rt; buf.as_slice(), bytes);
+        }
+        Poll::Pending => assert!(rt; false, "pending"),
+    }
+}
+
+/// Asserts that the state is done at its next poll, with this answer and these bytes.
+fn assert_moves<T: OpState<Output = (Result<(), FsError>, Buf)>>(
+    rt: &impl Abort,
+    alloc: Global,
+    engine: &mut Engine<IoUring>,
+    task: &mut T,
+    answer: Result<(), FsError>,
+    bytes: &[u8],
+) {
+    assert!(rt; !task.is_done());
+    assert_gives(rt, task.poll(alloc, engine), answer, bytes);
+    assert!(rt; task.is_done());
+}
+
+fn write_of_five(rt: &impl Abort, alloc: Global) -> WriteAllAt {
+    let buf = Buf::from_slice(alloc, b"hello").expect(rt, "memory");
+    File::of_number(3).write_all_at(buf, 7)
+}
+
+/// Asserts that the write of five bytes waits for so many turns, and then gives this answer.
+fn assert_writes(
+    rt: &impl Abort,
+    alloc: Global,
+    engine: &mut Engine<IoUring>,
+    partner: &mut HostilePartner,
+    turns: u32,
+    answer: Result<(), FsError>,
+) {
+    let mut write = write_of_five(rt, alloc);
+    for _ in 0..turns {
+        wait_a_turn(rt, alloc, engine, partner, &mut write);
+    }
+    assert_moves(rt, alloc, engine, &mut write, answer, b"hello");
+}
+
+/// Two bytes, an interruption, and the other three.
+#[test]
+fn short_counts_add_up(rt: HostRuntime) -> Result<(), Fail> {
+    let alloc = rt.alloc();
+    let mut partner = posting(alloc, &[2, -EINTR, 3])?;
+    let mut engine = engine_of(alloc, 1)?;
+    assert_writes(&rt, alloc, &mut engine, &mut partner, 3, Ok(()));
+    Ok(())
+}
+
+/// A count of 0 is told, and so is a count above what is left.
+#[test]
+fn counts_that_fail(rt: HostRuntime) -> Result<(), Fail> {
+    let alloc = rt.alloc();
+    let mut partner = posting(alloc, &[2, 0, 6])?;
+    let mut engine = engine_of(alloc, 1)?;
+    let zero = Err(FsError::WriteZero);
+    assert_writes(&rt, alloc, &mut engine, &mut partner, 2, zero);
+    let too_much = Err(FsError::BadCount);
+    assert_writes(&rt, alloc, &mut engine, &mut partner, 1, too_much);
+    Ok(())
+}
+
+/// Fifteen interruptions may come, and the sixteenth ends it.
+#[test]
+fn sixteen_interruptions(rt: HostRuntime) -> Result<(), Fail> {
+    let alloc = rt.alloc();
+    let mut partner = posting(alloc, &[-EINTR; 16])?;
+    let mut engine = engine_of(alloc, 1)?;
+    let interrupted = Err(FsError::Interrupted);
+    assert_writes(&rt, alloc, &mut engine, &mut partner, 16, interrupted);
+    Ok(())
+}
+
+/// An empty buffer comes back at once, and nothing is offered.
+#[test]
+fn empty_buffers(rt: HostRuntime) -> Result<(), Fail> {
+    let alloc = rt.alloc();
+    let mut engine = engine_of(alloc, 1)?;
+    move_nothing(&rt, alloc, &mut engine);
+    assert_eq!(rt; engine.in_flight(), 0);
+    assert_eq!(rt; engine.free(), 1);
+    Ok(())
+}
+
+fn move_nothing(rt: &impl Abort, alloc: Global, engine: &mut Engine<IoUring>) {
+    let file = File::of_number(3);
+    let mut write = file.write_all_at(Buf::new(alloc), 7);
+    assert_moves(rt, alloc, engine, &mut write, Ok(()), b"");
+    let mut read = file.read_exact_at(Buf::new(alloc), 7);
+    assert_moves(rt, alloc, engine, &mut read, Ok(()), b"");
+}
+
+/// A read past the end keeps what there was. Its second operation begins behind the first one's
+/// bytes, in the file and in the buffer.
+#[test]
+fn read_past_the_end(rt: HostRuntime) -> Result<(), Fail> {
+    let alloc = rt.alloc();
+    let mut engine = engine_of(alloc, 1)?;
+    let mut partner = MemoryPartner::new(alloc);
+    put_bytes(&rt, alloc, &mut partner, b"hello");
+    read_four_of_two(&rt, alloc, &mut engine, &mut partner);
+    Ok(())
+}
+
+fn read_four_of_two(
+    rt: &impl Abort,
+    alloc: Global,
+    engine: &mut Engine<IoUring>,
+    partner: &mut MemoryPartner,
+) {
+    let zeros = Buf::zeroed(alloc, 4).expect(rt, "memory");
+    let mut read = File::of_number(3).read_exact_at(zeros, 3);
+    wait_a_turn(rt, alloc, engine, partner, &mut read);
+    assert_waits(rt, alloc, engine, &mut read);
+    assert_eq!(rt; engine.in_flight(), 1);
+    assert!(rt; engine.turn(alloc, partner).is_ok());
+    let end = Err(FsError::UnexpectedEof);
+    assert_moves(rt, alloc, engine, &mut read, end, b"lo\0\0");
+}
+
+/// A whole buffer is written and read again, under a number of its own.
+#[test]
+fn each_call_of_whole_buffers(rt: HostRuntime) -> Result<(), Fail> {
+    let alloc = rt.alloc();
+    let mut engine = engine_of(alloc, 1)?;
+    let mut partner = MemoryPartner::new(alloc);
+    put_bytes(&rt, alloc, &mut partner, b"");
+    write_hello(&rt, alloc, &mut engine, &mut partner);
+    read_the_middle(&rt, alloc, &mut engine, &mut partner);
+    Ok(())
+}
+
+fn write_hello(
+    rt: &impl Abort,
+    alloc: Global,
+    engine: &mut Engine<IoUring>,
+    partner: &mut MemoryPartner,
+) {
+    let hello = Buf::from_slice(alloc, b"hello").expect(rt, "memory");
+    let mut write = File::of_number(3).write_all_at(hello, 0).with_number(9);
+    wait_a_turn(rt, alloc, engine, partner, &mut write);
+    assert_eq!(rt; engine.fresh(), 0);
+    assert_moves(rt, alloc, engine, &mut write, Ok(()), b"hello");
+}
+
+fn read_the_middle(
+    rt: &impl Abort,
+    alloc: Global,
+    engine: &mut Engine<IoUring>,
+    partner: &mut MemoryPartner,
+) {
+    let zeros = Buf::zeroed(alloc, 3).expect(rt, "memory");
+    let mut read = File::of_number(3).read_exact_at(zeros, 1);
+    wait_a_turn(rt, alloc, engine, partner, &mut read);
+    assert_moves(rt, alloc, engine, &mut read, Ok(()), b"ell");
+}
+
+/// A whole buffer whose number is in use comes back, and one that is polled on another engine than
+/// the one it began on is lost.
+#[test]
+fn whole_buffers_refused_and_lost(rt: HostRuntime) -> Result<(), Fail> {
+    let alloc = rt.alloc();
+    let mut one = engine_of(alloc, 1)?;
+    let mut other = engine_of(alloc, 1)?;
+    two_writes(&rt, alloc, &mut one, &mut other);
+    Ok(())
+}
+
+fn two_writes(
+    rt: &impl Abort,
+    alloc: Global,
+    one: &mut Engine<IoUring>,
+    other: &mut Engine<IoUring>,
+) {
+    let mut first = write_of_five(rt, alloc).with_number(5);
+    assert_waits(rt, alloc, one, &mut first);
+    let mut second = write_of_five(rt, alloc).with_number(5);
+    let in_use = Err(FsError::KeyInUse);
+    assert_moves(rt, alloc, one, &mut second, in_use, b"hello");
+    let lost = Err(FsError::KeyLost);
+    assert_moves(rt, alloc, other, &mut first, lost, b"");
+}
