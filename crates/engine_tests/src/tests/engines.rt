@@ -1,6 +1,6 @@
 use crate::tests::helpers::{
-    all_over, assert_resolved, completion, engine_of, is_key_in_use, is_ring_full, nop_under,
-    start_nop,
+    all_over, assert_completes, assert_in_flight, assert_resolved, cancel_under, completion,
+    engine_of, is_key_in_use, is_ring_full, nop_under, start_nop, turn,
 };
 use crate::tests::quiet_ends::quiet_under;
 use bitflags::Flags as _;
@@ -8,7 +8,6 @@ use partner_traits::Seedable;
 use rent_engine::{Engine, EngineFault, OneAnswer, OneOp, OpState, Poll, Step};
 use std::alloc::Global;
 use std::process::Abort;
-use std::test::Fail;
 use uring_base::errno::{ECANCELED, ENOENT};
 use uring_base::squeue::Entry;
 use uring_base::types::Fixed;
@@ -19,14 +18,13 @@ use uring_ring::IoUring;
 
 /// Each call that can find no memory answers otherwise where there is memory.
 #[test]
-fn each_call_of_the_engine(rt: HostRuntime) -> Result<(), Fail> {
+fn each_call_of_the_engine(rt: HostRuntime) {
     let alloc = rt.alloc();
-    let mut engine = engine_of(alloc, 2)?;
+    let mut engine = engine_of(&rt, alloc, 2);
     let mut partner = MemoryPartner::new(alloc);
     start_and_turn(&rt, alloc, &mut engine, &mut partner);
     nop_as_a_state(&rt, alloc, &mut engine, &mut partner);
     assert!(rt; quiet_under(alloc, &mut engine, 9, 10).is_ok());
-    Ok(())
 }
 
 fn start_and_turn(
@@ -38,8 +36,8 @@ fn start_and_turn(
     start_nop(rt, alloc, engine, 5);
     assert!(rt; engine.pump(alloc).is_ok());
     assert!(rt; engine.reserve(alloc, 3).is_ok());
-    assert!(rt; engine.turn(alloc, partner).is_ok());
-    assert!(rt; engine.cancel(alloc, 5, 6).is_ok());
+    turn(rt, alloc, engine, partner);
+    assert!(rt; cancel_under(alloc, engine, 5, 6).is_ok());
 }
 
 fn nop_as_a_state(
@@ -50,20 +48,24 @@ fn nop_as_a_state(
 ) {
     let mut op = OneOp::new(Nop::new().build(), None);
     assert!(rt; op.poll(alloc, engine).is_pending());
-    assert!(rt; engine.turn(alloc, partner).is_ok());
-    assert!(rt; matches!(op.poll(alloc, engine), Poll::Ready(OneAnswer::Done(_))));
+    turn(rt, alloc, engine, partner);
+    assert!(rt; is_ready(op.poll(alloc, engine)));
     assert!(rt; op.is_done());
+}
+
+/// Whether the operation was started and is resolved.
+fn is_ready(polled: Poll<OneAnswer>) -> bool {
+    matches!(polled, Poll::Ready(OneAnswer::Done(_)))
 }
 
 /// One operation at a time, on a ring of one entry.
 #[test]
-fn ring_of_one(rt: HostRuntime) -> Result<(), Fail> {
+fn ring_of_one(rt: HostRuntime) {
     let alloc = rt.alloc();
-    let mut engine = engine_of(alloc, 1)?;
+    let mut engine = engine_of(&rt, alloc, 1);
     let mut partner = MemoryPartner::new(alloc);
     nop_alone(&rt, alloc, &mut engine, &mut partner);
     cancel_alone(&rt, alloc, &mut engine, &mut partner);
-    Ok(())
 }
 
 fn nop_alone(
@@ -75,7 +77,7 @@ fn nop_alone(
     let started = nop_under(alloc, engine, 5);
     assert!(rt; is_key_in_use(nop_under(alloc, engine, 5)));
     assert!(rt; is_ring_full(nop_under(alloc, engine, 6)));
-    assert_eq!(rt; engine.turn(alloc, partner), all_over(1));
+    assert_eq!(rt; turn(rt, alloc, engine, partner), all_over(1));
     assert_resolved(rt, engine, started, 0);
     assert_eq!(rt; engine.fresh(), 0);
 }
@@ -86,21 +88,20 @@ fn cancel_alone(
     engine: &mut Engine<IoUring>,
     partner: &mut MemoryPartner,
 ) {
-    let canceled = engine.cancel(alloc, 9, 7);
-    assert_eq!(rt; engine.turn(alloc, partner), all_over(1));
+    let canceled = cancel_under(alloc, engine, 9, 7);
+    assert_eq!(rt; turn(rt, alloc, engine, partner), all_over(1));
     assert_resolved(rt, engine, canceled, -ENOENT);
 }
 
 /// Five kinds of completions that no operation in flight may have, and what then may come.
 #[test]
-fn strangers(rt: HostRuntime) -> Result<(), Fail> {
+fn strangers(rt: HostRuntime) {
     let alloc = rt.alloc();
-    let mut engine = engine_of(alloc, 2)?;
+    let mut engine = engine_of(&rt, alloc, 2);
     start_read(&rt, alloc, &mut engine, 0);
     start_nop(&rt, alloc, &mut engine, 1);
     five_strangers(&rt, alloc, &mut engine);
     step_and_end(&rt, alloc, &mut engine);
-    Ok(())
 }
 
 /// Starts a read of two bytes, and drops its key.
@@ -139,8 +140,8 @@ fn loan_of(rt: &impl Abort, alloc: Global, number: u64) -> Option<Loan> {
 /// Asserts that the completion is a stranger, and that two operations are in flight still.
 fn assert_stranger(rt: &impl Abort, engine: &mut Engine<IoUring>, strange: Completion) {
     let stranger = EngineFault::Stranger(strange.user_data);
-    assert_eq!(rt; engine.complete(strange), Err(stranger));
-    assert_eq!(rt; engine.in_flight(), 2);
+    assert_completes(rt, engine, strange, Err(stranger));
+    assert_in_flight(rt, engine, 2);
 }
 
 /// The read takes a step, and then its last completion.
@@ -152,22 +153,21 @@ fn step_and_end(rt: &impl Abort, alloc: Global, engine: &mut Engine<IoUring>) {
         result: 7,
         flags: more,
     };
-    assert_eq!(rt; engine.complete(completion(0, more, None)), Ok(Some(step)));
+    assert_completes(rt, engine, completion(0, more, None), Ok(Some(step)));
     let end = completion(0, last, loan_of(rt, alloc, 0));
-    assert_eq!(rt; engine.complete(end), Ok(None));
-    assert_eq!(rt; engine.in_flight(), 1);
+    assert_completes(rt, engine, end, Ok(None));
+    assert_in_flight(rt, engine, 1);
     assert_eq!(rt; engine.fresh(), 2);
 }
 
 /// A read gets the bytes of the file that it names.
 #[test]
-fn one_read(rt: HostRuntime) -> Result<(), Fail> {
+fn one_read(rt: HostRuntime) {
     let alloc = rt.alloc();
-    let mut engine = engine_of(alloc, 2)?;
+    let mut engine = engine_of(&rt, alloc, 2);
     let mut partner = MemoryPartner::new(alloc);
     put_hello(&rt, alloc, &mut partner);
     read_four(&rt, alloc, &mut engine, &mut partner);
-    Ok(())
 }
 
 /// Makes file 3 of the bytes `hello`.
@@ -185,7 +185,7 @@ fn read_four(
     let zeros = Buf::zeroed(alloc, 4).expect(rt, "memory");
     let mut op = OneOp::new(read_of(4, 1), Some(zeros)).with_number(8);
     assert!(rt; op.poll(alloc, engine).is_pending());
-    assert!(rt; engine.turn(alloc, partner).is_ok());
+    turn(rt, alloc, engine, partner);
     assert_brings(rt, op.poll(alloc, engine), b"ello");
 }
 
@@ -206,12 +206,11 @@ fn brought_by(polled: Poll<OneAnswer>) -> Option<Buf> {
 /// A cancel finds what is in flight, which is then resolved by its own completion. It is refused as
 /// any operation is.
 #[test]
-fn cancels(rt: HostRuntime) -> Result<(), Fail> {
+fn cancels(rt: HostRuntime) {
     let alloc = rt.alloc();
-    let mut engine = engine_of(alloc, 2)?;
+    let mut engine = engine_of(&rt, alloc, 2);
     let mut partner = MemoryPartner::new(alloc);
     cancel_nop(&rt, alloc, &mut engine, &mut partner);
-    Ok(())
 }
 
 fn cancel_nop(
@@ -220,11 +219,11 @@ fn cancel_nop(
     engine: &mut Engine<IoUring>,
     partner: &mut MemoryPartner,
 ) {
-    let canceled = engine.cancel(alloc, 4, 3);
-    assert!(rt; is_key_in_use(engine.cancel(alloc, 4, 3)));
+    let canceled = cancel_under(alloc, engine, 4, 3);
+    assert!(rt; is_key_in_use(cancel_under(alloc, engine, 4, 3)));
     let nop = nop_under(alloc, engine, 4);
-    assert!(rt; is_ring_full(engine.cancel(alloc, 4, 5)));
-    assert_eq!(rt; engine.turn(alloc, partner), all_over(2));
+    assert!(rt; is_ring_full(cancel_under(alloc, engine, 4, 5)));
+    assert_eq!(rt; turn(rt, alloc, engine, partner), all_over(2));
     assert_resolved(rt, engine, canceled, 0);
     assert_resolved(rt, engine, nop, -ECANCELED);
 }

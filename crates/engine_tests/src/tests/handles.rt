@@ -1,8 +1,7 @@
-use crate::tests::helpers::{engine_of, start_nop};
+use crate::tests::helpers::{assert_in_flight, engine_of, start_nop};
 use rent_engine::{CancelHandle, Engine, StartFault};
 use std::alloc::Global;
 use std::process::Abort;
-use std::test::Fail;
 use uring_ring::IoUring;
 
 /// Starts three operations, of numbers 0 to 2.
@@ -23,30 +22,28 @@ fn join_two(rt: &impl Abort, alloc: Global, engine: &mut Engine<IoUring>) -> Can
 /// Each call that can find no memory answers otherwise where there is memory: a cancel is started
 /// for each operation that is joined to the handle.
 #[test]
-fn each_call_of_handles(rt: HostRuntime) -> Result<(), Fail> {
+fn each_call_of_handles(rt: HostRuntime) {
     let alloc = rt.alloc();
-    let mut engine = engine_of(alloc, 8)?;
+    let mut engine = engine_of(&rt, alloc, 8);
     start_three(&rt, alloc, &mut engine);
     with_room(&rt, alloc, &mut engine);
-    Ok(())
 }
 
 fn with_room(rt: &impl Abort, alloc: Global, engine: &mut Engine<IoUring>) {
     let handle = join_two(rt, alloc, engine);
     assert!(rt; matches!(engine.cancel_handle(alloc, handle), Ok(2)));
     assert!(rt; engine.is_canceled(handle));
-    assert_eq!(rt; engine.in_flight(), 5);
+    assert_in_flight(rt, engine, 5);
     assert_eq!(rt; engine.fresh(), 5);
 }
 
 /// Where the ring has room for one of two, nothing is canceled.
 #[test]
-fn too_little_room(rt: HostRuntime) -> Result<(), Fail> {
+fn too_little_room(rt: HostRuntime) {
     let alloc = rt.alloc();
-    let mut engine = engine_of(alloc, 4)?;
+    let mut engine = engine_of(&rt, alloc, 4);
     start_three(&rt, alloc, &mut engine);
     with_room_for_one(&rt, alloc, &mut engine);
-    Ok(())
 }
 
 fn with_room_for_one(rt: &impl Abort, alloc: Global, engine: &mut Engine<IoUring>) {
@@ -54,5 +51,5 @@ fn with_room_for_one(rt: &impl Abort, alloc: Global, engine: &mut Engine<IoUring
     let canceled = engine.cancel_handle(alloc, handle);
     assert!(rt; matches!(canceled, Err(StartFault::RingFull(None))));
     assert!(rt; !engine.is_canceled(handle));
-    assert_eq!(rt; engine.in_flight(), 3);
+    assert_in_flight(rt, engine, 3);
 }

@@ -1,17 +1,18 @@
 //! What several of these tests do. The tests make their values, and lend them to functions that own
 //! neither an engine nor a partner.
 
-use rent_engine::{Engine, EngineFault, OpKey, OpPoll, StartFault, TurnReport};
+use partner_traits::Partner;
+use rent_engine::{Engine, EngineFault, OpKey, OpPoll, StartFault, Step, TurnReport};
 use std::alloc::Global;
 use std::process::Abort;
 use uring_base::{Completion, Loan};
 use uring_ops_file::Nop;
-use uring_ring::{IoUring, SetupError};
+use uring_ring::IoUring;
 
-pub fn engine_of(alloc: Global, entries: u32) -> Result<Engine<IoUring>, SetupError> {
-    let ring = IoUring::new(alloc, entries)?;
+pub fn engine_of(rt: &impl Abort, alloc: Global, entries: u32) -> Engine<IoUring> {
+    let ring = IoUring::new(alloc, entries).expect(rt, "no ring");
     let params = *ring.params();
-    Ok(Engine::new(alloc, ring, params))
+    Engine::new(alloc, ring, params)
 }
 
 pub fn nop_under(
@@ -27,6 +28,16 @@ pub fn start_nop(rt: &impl Abort, alloc: Global, engine: &mut Engine<IoUring>, n
     assert!(rt; nop_under(alloc, engine, number).is_ok());
 }
 
+/// Starts a cancel under a number of its own.
+pub fn cancel_under(
+    alloc: Global,
+    engine: &mut Engine<IoUring>,
+    target: u64,
+    number: u64,
+) -> Result<OpKey, StartFault> {
+    engine.cancel(alloc, target, number)
+}
+
 pub fn is_key_in_use(started: Result<OpKey, StartFault>) -> bool {
     matches!(started, Err(StartFault::KeyInUse(None)))
 }
@@ -35,14 +46,25 @@ pub fn is_ring_full(started: Result<OpKey, StartFault>) -> bool {
     matches!(started, Err(StartFault::RingFull(None)))
 }
 
-/// What a turn answers that took so many entries, each of which is over.
-pub fn all_over(taken: u32) -> Result<TurnReport, EngineFault> {
-    Ok(TurnReport {
-        taken,
-        finals: taken,
-    })
+/// Asserts that a turn goes well, and gives its report.
+pub fn turn<P: Partner>(
+    rt: &impl Abort,
+    alloc: Global,
+    engine: &mut Engine<IoUring>,
+    partner: &mut P,
+) -> TurnReport {
+    engine.turn(alloc, partner).expect(rt, "no turn")
 }
 
+/// The report of a turn that took so many entries, each of which is over.
+pub fn all_over(taken: u32) -> TurnReport {
+    TurnReport {
+        taken,
+        finals: taken,
+    }
+}
+
+/// A completion with result 7.
 pub fn completion(number: u64, flags: u32, loan: Option<Loan>) -> Completion {
     Completion {
         user_data: number,
@@ -51,6 +73,21 @@ pub fn completion(number: u64, flags: u32, loan: Option<Loan>) -> Completion {
         big: [0; 2],
         loan,
     }
+}
+
+/// Asserts that the engine answers so to a completion.
+pub fn assert_completes(
+    rt: &impl Abort,
+    engine: &mut Engine<IoUring>,
+    posted: Completion,
+    answer: Result<Option<Step>, EngineFault>,
+) {
+    assert_eq!(rt; engine.complete(posted), answer);
+}
+
+/// Asserts that so many operations are in flight.
+pub fn assert_in_flight(rt: &impl Abort, engine: &Engine<IoUring>, count: usize) {
+    assert_eq!(rt; engine.in_flight(), count);
 }
 
 /// The result of an operation that is resolved, and whether it is so quietly.

@@ -4,7 +4,6 @@ use rent_engine::{Engine, ExecFault, Executor, OpState};
 use rent_fs::{File, FsError, ReadAt};
 use std::alloc::Global;
 use std::process::Abort;
-use std::test::Fail;
 use uring_base::{Buf, Event};
 use uring_partner::MemoryPartner;
 use uring_ring::IoUring;
@@ -37,16 +36,15 @@ fn assert_read(rt: &impl Abort, output: Option<(Result<usize, FsError>, Buf)>) {
 /// Each call that can find no memory answers otherwise where there is memory. A read needs one
 /// turn, and its output is there once.
 #[test]
-fn each_call_of_the_executor(rt: HostRuntime) -> Result<(), Fail> {
+fn each_call_of_the_executor(rt: HostRuntime) {
     let alloc = rt.alloc();
-    let mut engine = engine_of(alloc, 2)?;
+    let mut engine = engine_of(&rt, alloc, 2);
     let mut partner = MemoryPartner::new(alloc);
     put_bytes(&rt, alloc, &mut partner, b"hello");
     let mut tasks = Executor::new(alloc);
     spawn_read(&rt, alloc, &mut tasks, 7, 0);
     run_one(&rt, alloc, &mut engine, &mut partner, &mut tasks);
     take_one(&rt, &mut tasks);
-    Ok(())
 }
 
 /// A round and turns of an executor with one read.
@@ -73,9 +71,9 @@ fn take_one(rt: &impl Abort, tasks: &mut Executor<ReadAt>) {
 
 /// Tasks are polled in rising id, whatever the numbers of their operations are. Ids go on rising.
 #[test]
-fn tasks_in_order(rt: HostRuntime) -> Result<(), Fail> {
+fn tasks_in_order(rt: HostRuntime) {
     let alloc = rt.alloc();
-    let mut engine = engine_of(alloc, 2)?;
+    let mut engine = engine_of(&rt, alloc, 2);
     let mut partner = MemoryPartner::new(alloc);
     put_bytes(&rt, alloc, &mut partner, b"hello");
     let mut tasks = Executor::new(alloc);
@@ -83,7 +81,6 @@ fn tasks_in_order(rt: HostRuntime) -> Result<(), Fail> {
     spawn_read(&rt, alloc, &mut tasks, 4, 1);
     run_two(&rt, alloc, &mut engine, &mut partner, &mut tasks);
     spawn_read(&rt, alloc, &mut tasks, 4, 2);
-    Ok(())
 }
 
 /// Two reads are taken in one turn, in the order of their ids.
@@ -103,9 +100,9 @@ fn run_two(
 
 /// A ring of one entry takes one read a turn.
 #[test]
-fn one_read_a_turn(rt: HostRuntime) -> Result<(), Fail> {
+fn one_read_a_turn(rt: HostRuntime) {
     let alloc = rt.alloc();
-    let mut engine = engine_of(alloc, 1)?;
+    let mut engine = engine_of(&rt, alloc, 1);
     let mut partner = MemoryPartner::new(alloc);
     put_bytes(&rt, alloc, &mut partner, b"hello");
     let mut tasks = Executor::new(alloc);
@@ -113,7 +110,6 @@ fn one_read_a_turn(rt: HostRuntime) -> Result<(), Fail> {
     spawn_read(&rt, alloc, &mut tasks, 1, 1);
     spawn_read(&rt, alloc, &mut tasks, 2, 2);
     run_three(&rt, alloc, &mut engine, &mut partner, &mut tasks);
-    Ok(())
 }
 
 fn run_three(

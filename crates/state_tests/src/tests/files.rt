@@ -1,22 +1,17 @@
-use crate::tests::helpers::{assert_waits, engine_of, posting, put_bytes, wait_a_turn};
+use crate::tests::helpers::{
+    assert_in_flight, assert_waits, engine_of, posting, put_bytes, turn, wait_a_turn,
+};
 use rent_engine::{Engine, EngineFault, OpState, Poll, StartFault};
 use rent_fs::{File, FsError, ReadAt, Sync};
 use std::alloc::Global;
 use std::fmt::Display;
 use std::process::Abort;
-use std::test::Fail;
 use uring_base::Buf;
 use uring_base::errno::{EBADF, EIO};
 use uring_base::squeue::Flags;
 use uring_partner::{HostilePartner, MemoryPartner};
 use uring_ring::IoUring;
 use uring_submit::SubmitError;
-
-/// A read of one byte of a file.
-fn read_of_one(rt: &impl Abort, alloc: Global, file: u32) -> ReadAt {
-    let zero = Buf::zeroed(alloc, 1).expect(rt, "memory");
-    File::of_number(file).read_at(zero, 0)
-}
 
 /// Asserts that a read or a write is done now, with this answer and these bytes.
 fn assert_gives(
@@ -67,15 +62,14 @@ fn assert_syncs(
 /// Each call that can find no memory answers otherwise where there is memory: what is written is
 /// read.
 #[test]
-fn each_call_of_the_files(rt: HostRuntime) -> Result<(), Fail> {
+fn each_call_of_the_files(rt: HostRuntime) {
     let alloc = rt.alloc();
-    let mut engine = engine_of(alloc, 2)?;
+    let mut engine = engine_of(&rt, alloc, 2);
     let mut partner = MemoryPartner::new(alloc);
     put_bytes(&rt, alloc, &mut partner, b"");
     write_hello(&rt, alloc, &mut engine, &mut partner);
     read_the_last(&rt, alloc, &mut engine, &mut partner);
     sync_both_ways(&rt, alloc, &mut engine, &mut partner);
-    Ok(())
 }
 
 fn write_hello(
@@ -120,12 +114,11 @@ fn sync_both_ways(
 
 /// A state whose number is in use is done at once; one that finds the ring full waits.
 #[test]
-fn numbers_in_use(rt: HostRuntime) -> Result<(), Fail> {
+fn numbers_in_use(rt: HostRuntime) {
     let alloc = rt.alloc();
-    let mut engine = engine_of(alloc, 1)?;
+    let mut engine = engine_of(&rt, alloc, 1);
     let mut partner = MemoryPartner::new(alloc);
     two_of_a_number(&rt, alloc, &mut engine, &mut partner);
-    Ok(())
 }
 
 fn two_of_a_number(
@@ -134,30 +127,47 @@ fn two_of_a_number(
     engine: &mut Engine<IoUring>,
     partner: &mut MemoryPartner,
 ) {
-    let mut first = read_of_one(rt, alloc, 9).with_number(5);
+    let zero = Buf::zeroed(alloc, 1).expect(rt, "memory");
+    let mut first = File::of_number(9).read_at(zero, 0).with_number(5);
     assert_waits(rt, alloc, engine, &mut first);
-    let mut second = read_of_one(rt, alloc, 9).with_number(5);
+    second_of_the_number(rt, alloc, engine);
+    third_waits(rt, alloc, engine, partner, &mut first);
+}
+
+fn second_of_the_number(rt: &impl Abort, alloc: Global, engine: &mut Engine<IoUring>) {
+    let zero = Buf::zeroed(alloc, 1).expect(rt, "memory");
+    let mut second = File::of_number(9).read_at(zero, 0).with_number(5);
     let in_use = Err(FsError::KeyInUse);
     assert_reads(rt, alloc, engine, &mut second, in_use, b"\0");
-    let mut third = read_of_one(rt, alloc, 9);
+}
+
+/// A third read waits until the first is over, whose file isn't there.
+fn third_waits(
+    rt: &impl Abort,
+    alloc: Global,
+    engine: &mut Engine<IoUring>,
+    partner: &mut MemoryPartner,
+    first: &mut ReadAt,
+) {
+    let zero = Buf::zeroed(alloc, 1).expect(rt, "memory");
+    let mut third = File::of_number(9).read_at(zero, 0);
     assert_waits(rt, alloc, engine, &mut third);
-    assert_eq!(rt; engine.in_flight(), 1);
-    assert!(rt; engine.turn(alloc, partner).is_ok());
+    assert_in_flight(rt, engine, 1);
+    turn(rt, alloc, engine, partner);
     let no_file = Err(FsError::Os(EBADF.cast_unsigned()));
-    assert_reads(rt, alloc, engine, &mut first, no_file, b"\0");
+    assert_reads(rt, alloc, engine, first, no_file, b"\0");
     assert_waits(rt, alloc, engine, &mut third);
-    assert_eq!(rt; engine.in_flight(), 1);
+    assert_in_flight(rt, engine, 1);
 }
 
 /// A state that is polled on another engine than the one it began on is lost, with its buffer.
 #[test]
-fn lost_on_another_engine(rt: HostRuntime) -> Result<(), Fail> {
+fn lost_on_another_engine(rt: HostRuntime) {
     let alloc = rt.alloc();
     assert_eq!(rt; File::of_number(3).number(), 3);
-    let mut one = engine_of(alloc, 1)?;
-    let mut other = engine_of(alloc, 1)?;
+    let mut one = engine_of(&rt, alloc, 1);
+    let mut other = engine_of(&rt, alloc, 1);
     read_on_two(&rt, alloc, &mut one, &mut other);
-    Ok(())
 }
 
 fn read_on_two(
@@ -166,21 +176,21 @@ fn read_on_two(
     one: &mut Engine<IoUring>,
     other: &mut Engine<IoUring>,
 ) {
-    let mut read = read_of_one(rt, alloc, 3);
+    let zero = Buf::zeroed(alloc, 1).expect(rt, "memory");
+    let mut read = File::of_number(3).read_at(zero, 0);
     assert_waits(rt, alloc, one, &mut read);
     assert_reads(rt, alloc, other, &mut read, Err(FsError::KeyLost), b"");
 }
 
 /// A count above the buffer's length is told as it came, and so is an interruption.
 #[test]
-fn what_a_hostile_partner_tells(rt: HostRuntime) -> Result<(), Fail> {
+fn what_a_hostile_partner_tells(rt: HostRuntime) {
     let alloc = rt.alloc();
-    let mut partner = posting(alloc, &[1000, i32::MIN])?;
-    let mut engine = engine_of(alloc, 1)?;
+    let mut partner = posting(&rt, alloc, &[1000, i32::MIN]);
+    let mut engine = engine_of(&rt, alloc, 1);
     for answer in [Ok(1000), Err(FsError::Os(i32::MIN.unsigned_abs()))] {
         read_two(&rt, alloc, &mut engine, &mut partner, answer);
     }
-    Ok(())
 }
 
 /// A read of two bytes gets this answer, and no byte.
@@ -201,13 +211,12 @@ fn read_two(
 
 /// A sync of a file that isn't there, of a number in use, and of another engine's operation.
 #[test]
-fn syncs_that_fail(rt: HostRuntime) -> Result<(), Fail> {
+fn syncs_that_fail(rt: HostRuntime) {
     let alloc = rt.alloc();
-    let mut engine = engine_of(alloc, 2)?;
-    let mut other = engine_of(alloc, 2)?;
+    let mut engine = engine_of(&rt, alloc, 2);
+    let mut other = engine_of(&rt, alloc, 2);
     let mut partner = MemoryPartner::new(alloc);
     three_syncs(&rt, alloc, &mut engine, &mut other, &mut partner);
-    Ok(())
 }
 
 fn three_syncs(
@@ -220,20 +229,30 @@ fn three_syncs(
     let file = File::of_number(9);
     let mut first = file.sync_data().with_number(5).with_flags(Flags::ASYNC);
     assert_waits(rt, alloc, engine, &mut first);
+    second_and_third(rt, alloc, engine, other);
+    turn(rt, alloc, engine, partner);
+    let no_file = Err(FsError::Os(EBADF.cast_unsigned()));
+    assert_syncs(rt, alloc, engine, &mut first, no_file);
+}
+
+fn second_and_third(
+    rt: &impl Abort,
+    alloc: Global,
+    engine: &mut Engine<IoUring>,
+    other: &mut Engine<IoUring>,
+) {
+    let file = File::of_number(9);
     let mut second = file.sync_all().with_number(5);
     let in_use = Err(FsError::KeyInUse);
     assert_syncs(rt, alloc, engine, &mut second, in_use);
     let mut third = file.sync_all();
     assert_waits(rt, alloc, engine, &mut third);
     assert_syncs(rt, alloc, other, &mut third, Err(FsError::KeyLost));
-    assert!(rt; engine.turn(alloc, partner).is_ok());
-    let no_file = Err(FsError::Os(EBADF.cast_unsigned()));
-    assert_syncs(rt, alloc, engine, &mut first, no_file);
 }
 
 /// What the faults of each layer say, and that a partner's keeps its error number up to the top.
 #[test]
-fn texts_of_faults(rt: HostRuntime) -> Result<(), Fail> {
+fn texts_of_faults(rt: HostRuntime) {
     let alloc = rt.alloc();
     let full = StartFault::RingFull(None);
     assert_says(&rt, alloc, &full, "the submission ring is full");
@@ -243,7 +262,6 @@ fn texts_of_faults(rt: HostRuntime) -> Result<(), Fail> {
     assert_says(&rt, alloc, &engine, "partner fault: error number 5");
     let file = FsError::from(engine);
     assert_says(&rt, alloc, &file, "error number 5");
-    Ok(())
 }
 
 fn assert_says<T: Display>(rt: &impl Abort, alloc: Global, fault: &T, wanted: &str) {

@@ -3,16 +3,16 @@
 
 use partner_traits::{Partner, Seedable};
 use rent_engine::{Engine, OpState};
-use std::alloc::{AllocError, Global};
+use std::alloc::Global;
 use std::process::Abort;
 use uring_base::Buf;
 use uring_partner::{HostilePartner, LoanPlan, MemoryPartner, Scripted};
-use uring_ring::{IoUring, SetupError};
+use uring_ring::IoUring;
 
-pub fn engine_of(alloc: Global, entries: u32) -> Result<Engine<IoUring>, SetupError> {
-    let ring = IoUring::new(alloc, entries)?;
+pub fn engine_of(rt: &impl Abort, alloc: Global, entries: u32) -> Engine<IoUring> {
+    let ring = IoUring::new(alloc, entries).expect(rt, "no ring");
     let params = *ring.params();
-    Ok(Engine::new(alloc, ring, params))
+    Engine::new(alloc, ring, params)
 }
 
 /// Makes file 3 of these bytes.
@@ -22,18 +22,39 @@ pub fn put_bytes(rt: &impl Abort, alloc: Global, partner: &mut MemoryPartner, by
 }
 
 /// A partner that posts these results, one in each turn, each under number 0 and with its loan.
-pub fn posting(alloc: Global, results: &[i32]) -> Result<HostilePartner, AllocError> {
+pub fn posting(rt: &impl Abort, alloc: Global, results: &[i32]) -> HostilePartner {
     let mut script = Vec::new(alloc);
     for result in results {
-        script.push(Scripted::Post {
-            user_data: 0,
-            result: *result,
-            flags: 0,
-            loan: LoanPlan::Lent,
-        })?;
-        script.push(Scripted::Turn)?;
+        push_post(rt, &mut script, *result);
     }
-    Ok(HostilePartner::new(alloc, script))
+    HostilePartner::new(alloc, script)
+}
+
+/// Adds a turn with one post.
+fn push_post(rt: &impl Abort, script: &mut Vec<Scripted>, outcome: i32) {
+    let post = Scripted::Post {
+        user_data: 0,
+        result: outcome,
+        flags: 0,
+        loan: LoanPlan::Lent,
+    };
+    assert!(rt; script.push(post).is_ok());
+    assert!(rt; script.push(Scripted::Turn).is_ok());
+}
+
+/// Asserts that a turn goes well.
+pub fn turn<P: Partner>(
+    rt: &impl Abort,
+    alloc: Global,
+    engine: &mut Engine<IoUring>,
+    partner: &mut P,
+) {
+    assert!(rt; engine.turn(alloc, partner).is_ok());
+}
+
+/// Asserts that so many operations are in flight.
+pub fn assert_in_flight(rt: &impl Abort, engine: &Engine<IoUring>, count: usize) {
+    assert_eq!(rt; engine.in_flight(), count);
 }
 
 /// Asserts that the state waits.
@@ -62,5 +83,5 @@ where
     T::Output: Drop,
 {
     assert_waits(rt, alloc, engine, task);
-    assert!(rt; engine.turn(alloc, partner).is_ok());
+    turn(rt, alloc, engine, partner);
 }

@@ -1,9 +1,10 @@
-use crate::tests::helpers::{assert_waits, engine_of, posting, put_bytes, wait_a_turn};
+use crate::tests::helpers::{
+    assert_in_flight, assert_waits, engine_of, posting, put_bytes, turn, wait_a_turn,
+};
 use rent_engine::{Engine, OpState, Poll};
-use rent_fs::{File, FsError, WriteAllAt};
+use rent_fs::{File, FsError};
 use std::alloc::Global;
 use std::process::Abort;
-use std::test::Fail;
 use uring_base::Buf;
 use uring_base::errno::EINTR;
 use uring_partner::{HostilePartner, MemoryPartner};
@@ -39,11 +40,6 @@ fn assert_moves<T: OpState<Output = (Result<(), FsError>, Buf)>>(
     assert!(rt; task.is_done());
 }
 
-fn write_of_five(rt: &impl Abort, alloc: Global) -> WriteAllAt {
-    let buf = Buf::from_slice(alloc, b"hello").expect(rt, "memory");
-    File::of_number(3).write_all_at(buf, 7)
-}
-
 /// Asserts that the write of five bytes waits for so many turns, and then gives this answer.
 fn assert_writes(
     rt: &impl Abort,
@@ -53,7 +49,8 @@ fn assert_writes(
     turns: u32,
     answer: Result<(), FsError>,
 ) {
-    let mut write = write_of_five(rt, alloc);
+    let hello = Buf::from_slice(alloc, b"hello").expect(rt, "memory");
+    let mut write = File::of_number(3).write_all_at(hello, 7);
     for _ in 0..turns {
         wait_a_turn(rt, alloc, engine, partner, &mut write);
     }
@@ -62,47 +59,43 @@ fn assert_writes(
 
 /// Two bytes, an interruption, and the other three.
 #[test]
-fn short_counts_add_up(rt: HostRuntime) -> Result<(), Fail> {
+fn short_counts_add_up(rt: HostRuntime) {
     let alloc = rt.alloc();
-    let mut partner = posting(alloc, &[2, -EINTR, 3])?;
-    let mut engine = engine_of(alloc, 1)?;
+    let mut partner = posting(&rt, alloc, &[2, -EINTR, 3]);
+    let mut engine = engine_of(&rt, alloc, 1);
     assert_writes(&rt, alloc, &mut engine, &mut partner, 3, Ok(()));
-    Ok(())
 }
 
 /// A count of 0 is told, and so is a count above what is left.
 #[test]
-fn counts_that_fail(rt: HostRuntime) -> Result<(), Fail> {
+fn counts_that_fail(rt: HostRuntime) {
     let alloc = rt.alloc();
-    let mut partner = posting(alloc, &[2, 0, 6])?;
-    let mut engine = engine_of(alloc, 1)?;
+    let mut partner = posting(&rt, alloc, &[2, 0, 6]);
+    let mut engine = engine_of(&rt, alloc, 1);
     let zero = Err(FsError::WriteZero);
     assert_writes(&rt, alloc, &mut engine, &mut partner, 2, zero);
     let too_much = Err(FsError::BadCount);
     assert_writes(&rt, alloc, &mut engine, &mut partner, 1, too_much);
-    Ok(())
 }
 
 /// Fifteen interruptions may come, and the sixteenth ends it.
 #[test]
-fn sixteen_interruptions(rt: HostRuntime) -> Result<(), Fail> {
+fn sixteen_interruptions(rt: HostRuntime) {
     let alloc = rt.alloc();
-    let mut partner = posting(alloc, &[-EINTR; 16])?;
-    let mut engine = engine_of(alloc, 1)?;
+    let mut partner = posting(&rt, alloc, &[-EINTR; 16]);
+    let mut engine = engine_of(&rt, alloc, 1);
     let interrupted = Err(FsError::Interrupted);
     assert_writes(&rt, alloc, &mut engine, &mut partner, 16, interrupted);
-    Ok(())
 }
 
 /// An empty buffer comes back at once, and nothing is offered.
 #[test]
-fn empty_buffers(rt: HostRuntime) -> Result<(), Fail> {
+fn empty_buffers(rt: HostRuntime) {
     let alloc = rt.alloc();
-    let mut engine = engine_of(alloc, 1)?;
+    let mut engine = engine_of(&rt, alloc, 1);
     move_nothing(&rt, alloc, &mut engine);
     assert_eq!(rt; engine.in_flight(), 0);
     assert_eq!(rt; engine.free(), 1);
-    Ok(())
 }
 
 fn move_nothing(rt: &impl Abort, alloc: Global, engine: &mut Engine<IoUring>) {
@@ -116,13 +109,12 @@ fn move_nothing(rt: &impl Abort, alloc: Global, engine: &mut Engine<IoUring>) {
 /// A read past the end keeps what there was. Its second operation begins behind the first one's
 /// bytes, in the file and in the buffer.
 #[test]
-fn read_past_the_end(rt: HostRuntime) -> Result<(), Fail> {
+fn read_past_the_end(rt: HostRuntime) {
     let alloc = rt.alloc();
-    let mut engine = engine_of(alloc, 1)?;
+    let mut engine = engine_of(&rt, alloc, 1);
     let mut partner = MemoryPartner::new(alloc);
     put_bytes(&rt, alloc, &mut partner, b"hello");
     read_four_of_two(&rt, alloc, &mut engine, &mut partner);
-    Ok(())
 }
 
 fn read_four_of_two(
@@ -135,22 +127,21 @@ fn read_four_of_two(
     let mut read = File::of_number(3).read_exact_at(zeros, 3);
     wait_a_turn(rt, alloc, engine, partner, &mut read);
     assert_waits(rt, alloc, engine, &mut read);
-    assert_eq!(rt; engine.in_flight(), 1);
-    assert!(rt; engine.turn(alloc, partner).is_ok());
+    assert_in_flight(rt, engine, 1);
+    turn(rt, alloc, engine, partner);
     let end = Err(FsError::UnexpectedEof);
     assert_moves(rt, alloc, engine, &mut read, end, b"lo\0\0");
 }
 
 /// A whole buffer is written and read again, under a number of its own.
 #[test]
-fn each_call_of_whole_buffers(rt: HostRuntime) -> Result<(), Fail> {
+fn each_call_of_whole_buffers(rt: HostRuntime) {
     let alloc = rt.alloc();
-    let mut engine = engine_of(alloc, 1)?;
+    let mut engine = engine_of(&rt, alloc, 1);
     let mut partner = MemoryPartner::new(alloc);
     put_bytes(&rt, alloc, &mut partner, b"");
     write_hello(&rt, alloc, &mut engine, &mut partner);
     read_the_middle(&rt, alloc, &mut engine, &mut partner);
-    Ok(())
 }
 
 fn write_hello(
@@ -181,12 +172,11 @@ fn read_the_middle(
 /// A whole buffer whose number is in use comes back, and one that is polled on another engine than
 /// the one it began on is lost.
 #[test]
-fn whole_buffers_refused_and_lost(rt: HostRuntime) -> Result<(), Fail> {
+fn whole_buffers_refused_and_lost(rt: HostRuntime) {
     let alloc = rt.alloc();
-    let mut one = engine_of(alloc, 1)?;
-    let mut other = engine_of(alloc, 1)?;
+    let mut one = engine_of(&rt, alloc, 1);
+    let mut other = engine_of(&rt, alloc, 1);
     two_writes(&rt, alloc, &mut one, &mut other);
-    Ok(())
 }
 
 fn two_writes(
@@ -195,11 +185,17 @@ fn two_writes(
     one: &mut Engine<IoUring>,
     other: &mut Engine<IoUring>,
 ) {
-    let mut first = write_of_five(rt, alloc).with_number(5);
+    let hello = Buf::from_slice(alloc, b"hello").expect(rt, "memory");
+    let mut first = File::of_number(3).write_all_at(hello, 7).with_number(5);
     assert_waits(rt, alloc, one, &mut first);
-    let mut second = write_of_five(rt, alloc).with_number(5);
-    let in_use = Err(FsError::KeyInUse);
-    assert_moves(rt, alloc, one, &mut second, in_use, b"hello");
+    second_of_the_number(rt, alloc, one);
     let lost = Err(FsError::KeyLost);
     assert_moves(rt, alloc, other, &mut first, lost, b"");
+}
+
+fn second_of_the_number(rt: &impl Abort, alloc: Global, engine: &mut Engine<IoUring>) {
+    let hello = Buf::from_slice(alloc, b"hello").expect(rt, "memory");
+    let mut second = File::of_number(3).write_all_at(hello, 7).with_number(5);
+    let in_use = Err(FsError::KeyInUse);
+    assert_moves(rt, alloc, engine, &mut second, in_use, b"hello");
 }
