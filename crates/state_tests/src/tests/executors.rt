@@ -22,6 +22,17 @@ fn spawn_read(
     assert_eq!(rt; tasks.spawn(alloc, read).ok(), Some(id));
 }
 
+/// Rounds, and so many turns between them at most.
+fn run(
+    alloc: Global,
+    engine: &mut Engine<IoUring>,
+    partner: &mut MemoryPartner,
+    tasks: &mut Executor<ReadAt>,
+    turns: u32,
+) -> Result<u32, ExecFault> {
+    tasks.run(alloc, engine, partner, turns)
+}
+
 /// Asserts that a task gave the whole of file 3.
 fn assert_read(rt: &impl Abort, output: Option<(Result<usize, FsError>, Buf)>) {
     match output {
@@ -56,11 +67,14 @@ fn run_one(
     tasks: &mut Executor<ReadAt>,
 ) {
     assert_eq!(rt; tasks.round(alloc, engine), Ok(1));
-    assert_eq!(rt; tasks.run(alloc, engine, partner, 0), Err(ExecFault::Spent));
+    assert_eq!(rt;
+        run(alloc, engine, partner, tasks, 0),
+        Err(ExecFault::Spent)
+    );
     assert_eq!(rt; tasks.unfinished(), 1);
     assert!(rt; tasks.take(0).is_none());
-    assert_eq!(rt; tasks.run(alloc, engine, partner, 1), Ok(1));
-    assert_eq!(rt; tasks.run(alloc, engine, partner, 1), Ok(0));
+    assert_eq!(rt; run(alloc, engine, partner, tasks, 1), Ok(1));
+    assert_eq!(rt; run(alloc, engine, partner, tasks, 1), Ok(0));
 }
 
 /// The output of the first task is there once.
@@ -91,11 +105,17 @@ fn run_two(
     partner: &mut MemoryPartner,
     tasks: &mut Executor<ReadAt>,
 ) {
-    assert_eq!(rt; tasks.run(alloc, engine, partner, 1), Ok(1));
-    assert_eq!(rt; partner.log_event(0), Event::Turn(2));
-    assert_eq!(rt; partner.log_event(1), Event::Take(5));
-    assert_eq!(rt; partner.log_event(2), Event::Take(4));
+    assert_eq!(rt; run(alloc, engine, partner, tasks, 1), Ok(1));
+    assert_event(rt, partner, 0, Event::Turn(2));
+    assert_event(rt, partner, 1, Event::Take(5));
+    assert_event(rt, partner, 2, Event::Take(4));
     assert_read(rt, tasks.take(1));
+}
+
+/// Asserts that the partner tells this event at that place.
+fn assert_event(rt: &impl Abort, partner: &MemoryPartner, place: usize, event: Event) {
+    assert!(rt; place < partner.log_len());
+    assert_eq!(rt; partner.log_event(place), event);
 }
 
 /// A ring of one entry takes one read a turn.
@@ -120,8 +140,8 @@ fn run_three(
     tasks: &mut Executor<ReadAt>,
 ) {
     let spent = Err(ExecFault::Spent);
-    assert_eq!(rt; tasks.run(alloc, engine, partner, 2), spent);
+    assert_eq!(rt; run(alloc, engine, partner, tasks, 2), spent);
     assert_eq!(rt; tasks.unfinished(), 1);
-    assert_eq!(rt; tasks.run(alloc, engine, partner, 9), Ok(1));
+    assert_eq!(rt; run(alloc, engine, partner, tasks, 9), Ok(1));
     assert_read(rt, tasks.take(2));
 }

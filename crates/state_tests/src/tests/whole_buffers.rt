@@ -94,7 +94,7 @@ fn empty_buffers(rt: HostRuntime) {
     let alloc = rt.alloc();
     let mut engine = engine_of(&rt, alloc, 1);
     move_nothing(&rt, alloc, &mut engine);
-    assert_eq!(rt; engine.in_flight(), 0);
+    assert_in_flight(&rt, &engine, 0);
     assert_eq!(rt; engine.free(), 1);
 }
 
