@@ -205,8 +205,19 @@ fn read_two(
     let mut read = File::of_number(3)
         .read_at(zeros, 0)
         .with_flags(Flags::ASYNC);
-    wait_a_turn(rt, alloc, engine, partner, &mut read);
-    assert_reads(rt, alloc, engine, &mut read, answer, b"\0\0");
+    turn_of_a_read(rt, alloc, engine, partner, &mut read, answer);
+}
+
+fn turn_of_a_read(
+    rt: &impl Abort,
+    alloc: Global,
+    engine: &mut Engine<IoUring>,
+    partner: &mut HostilePartner,
+    read: &mut ReadAt,
+    answer: Result<usize, FsError>,
+) {
+    wait_a_turn(rt, alloc, engine, partner, read);
+    assert_reads(rt, alloc, engine, read, answer, b"\0\0");
 }
 
 /// A sync of a file that isn't there, of a number in use, and of another engine's operation.
@@ -228,11 +239,22 @@ fn three_syncs(
 ) {
     let file = File::of_number(9);
     let mut first = file.sync_data().with_number(5).with_flags(Flags::ASYNC);
-    assert_waits(rt, alloc, engine, &mut first);
+    first_of_three(rt, alloc, engine, other, partner, &mut first);
+}
+
+fn first_of_three(
+    rt: &impl Abort,
+    alloc: Global,
+    engine: &mut Engine<IoUring>,
+    other: &mut Engine<IoUring>,
+    partner: &mut MemoryPartner,
+    first: &mut Sync,
+) {
+    assert_waits(rt, alloc, engine, first);
     second_and_third(rt, alloc, engine, other);
     turn(rt, alloc, engine, partner);
     let no_file = Err(FsError::Os(EBADF.cast_unsigned()));
-    assert_syncs(rt, alloc, engine, &mut first, no_file);
+    assert_syncs(rt, alloc, engine, first, no_file);
 }
 
 fn second_and_third(

@@ -93,16 +93,19 @@ fn sixteen_interruptions(rt: HostRuntime) {
 fn empty_buffers(rt: HostRuntime) {
     let alloc = rt.alloc();
     let mut engine = engine_of(&rt, alloc, 1);
-    move_nothing(&rt, alloc, &mut engine);
+    write_nothing(&rt, alloc, &mut engine);
+    read_nothing(&rt, alloc, &mut engine);
     assert_in_flight(&rt, &engine, 0);
     assert_eq!(rt; engine.free(), 1);
 }
 
-fn move_nothing(rt: &impl Abort, alloc: Global, engine: &mut Engine<IoUring>) {
-    let file = File::of_number(3);
-    let mut write = file.write_all_at(Buf::new(alloc), 7);
+fn write_nothing(rt: &impl Abort, alloc: Global, engine: &mut Engine<IoUring>) {
+    let mut write = File::of_number(3).write_all_at(Buf::new(alloc), 7);
     assert_moves(rt, alloc, engine, &mut write, Ok(()), b"");
-    let mut read = file.read_exact_at(Buf::new(alloc), 7);
+}
+
+fn read_nothing(rt: &impl Abort, alloc: Global, engine: &mut Engine<IoUring>) {
+    let mut read = File::of_number(3).read_exact_at(Buf::new(alloc), 7);
     assert_moves(rt, alloc, engine, &mut read, Ok(()), b"");
 }
 
