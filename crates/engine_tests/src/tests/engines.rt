@@ -64,8 +64,17 @@ fn ring_of_one(rt: HostRuntime) {
     let alloc = rt.alloc();
     let mut engine = engine_of(&rt, alloc, 1);
     let mut partner = MemoryPartner::new(alloc);
-    nop_alone(&rt, alloc, &mut engine, &mut partner);
-    cancel_alone(&rt, alloc, &mut engine, &mut partner);
+    one_at_a_time(&rt, alloc, &mut engine, &mut partner);
+}
+
+fn one_at_a_time(
+    rt: &impl Abort,
+    alloc: Global,
+    engine: &mut Engine<IoUring>,
+    partner: &mut MemoryPartner,
+) {
+    nop_alone(rt, alloc, engine, partner);
+    cancel_alone(rt, alloc, engine, partner);
 }
 
 fn nop_alone(
@@ -98,10 +107,14 @@ fn cancel_alone(
 fn strangers(rt: HostRuntime) {
     let alloc = rt.alloc();
     let mut engine = engine_of(&rt, alloc, 2);
-    start_read(&rt, alloc, &mut engine, 0);
-    start_nop(&rt, alloc, &mut engine, 1);
-    five_strangers(&rt, alloc, &mut engine);
-    step_and_end(&rt, alloc, &mut engine);
+    strangers_of_two(&rt, alloc, &mut engine);
+}
+
+fn strangers_of_two(rt: &impl Abort, alloc: Global, engine: &mut Engine<IoUring>) {
+    start_read(rt, alloc, engine, 0);
+    start_nop(rt, alloc, engine, 1);
+    five_strangers(rt, alloc, engine);
+    step_and_end(rt, alloc, engine);
 }
 
 /// Starts a read of two bytes, and drops its key.

@@ -46,10 +46,13 @@ fn too_little_room(rt: HostRuntime) {
     with_room_for_one(&rt, alloc, &mut engine);
 }
 
+fn has_no_room(canceled: Result<u32, StartFault>) -> bool {
+    matches!(canceled, Err(StartFault::RingFull(None)))
+}
+
 fn with_room_for_one(rt: &impl Abort, alloc: Global, engine: &mut Engine<IoUring>) {
     let handle = join_two(rt, alloc, engine);
-    let canceled = engine.cancel_handle(alloc, handle);
-    assert!(rt; matches!(canceled, Err(StartFault::RingFull(None))));
+    assert!(rt; has_no_room(engine.cancel_handle(alloc, handle)));
     assert!(rt; !engine.is_canceled(handle));
     assert_in_flight(rt, engine, 3);
 }

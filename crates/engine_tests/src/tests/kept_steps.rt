@@ -52,9 +52,13 @@ fn step_with(outcome: i32) -> Step {
 fn reserved_starts(rt: HostRuntime) {
     let alloc = rt.alloc();
     let mut engine = engine_of(&rt, alloc, 2);
+    start_reserved(&rt, alloc, &mut engine);
+}
+
+fn start_reserved(rt: &impl Abort, alloc: Global, engine: &mut Engine<IoUring>) {
     assert!(rt; engine.reserve(alloc, 2).is_ok());
-    start_nop(&rt, alloc, &mut engine, 0);
-    start_nop(&rt, alloc, &mut engine, 1);
+    start_nop(rt, alloc, engine, 0);
+    start_nop(rt, alloc, engine, 1);
 }
 
 /// An operation that was forgotten is in flight until its last completion, and keeps no step.

@@ -51,14 +51,11 @@ fn each_call_of_the_executor(rt: HostRuntime) {
     let alloc = rt.alloc();
     let mut engine = engine_of(&rt, alloc, 2);
     let mut partner = MemoryPartner::new(alloc);
-    put_bytes(&rt, alloc, &mut partner, b"hello");
     let mut tasks = Executor::new(alloc);
-    spawn_read(&rt, alloc, &mut tasks, 7, 0);
     run_one(&rt, alloc, &mut engine, &mut partner, &mut tasks);
-    take_one(&rt, &mut tasks);
 }
 
-/// A round and turns of an executor with one read.
+/// A read under number 7, polled by a round and by turns.
 fn run_one(
     rt: &impl Abort,
     alloc: Global,
@@ -66,6 +63,8 @@ fn run_one(
     partner: &mut MemoryPartner,
     tasks: &mut Executor<ReadAt>,
 ) {
+    put_bytes(rt, alloc, partner, b"hello");
+    spawn_read(rt, alloc, tasks, 7, 0);
     assert_eq!(rt; tasks.round(alloc, engine), Ok(1));
     assert_eq!(rt;
         run(alloc, engine, partner, tasks, 0),
@@ -75,6 +74,7 @@ fn run_one(
     assert!(rt; tasks.take(0).is_none());
     assert_eq!(rt; run(alloc, engine, partner, tasks, 1), Ok(1));
     assert_eq!(rt; run(alloc, engine, partner, tasks, 1), Ok(0));
+    take_one(rt, tasks);
 }
 
 /// The output of the first task is there once.
@@ -89,12 +89,8 @@ fn tasks_in_order(rt: HostRuntime) {
     let alloc = rt.alloc();
     let mut engine = engine_of(&rt, alloc, 2);
     let mut partner = MemoryPartner::new(alloc);
-    put_bytes(&rt, alloc, &mut partner, b"hello");
     let mut tasks = Executor::new(alloc);
-    spawn_read(&rt, alloc, &mut tasks, 5, 0);
-    spawn_read(&rt, alloc, &mut tasks, 4, 1);
     run_two(&rt, alloc, &mut engine, &mut partner, &mut tasks);
-    spawn_read(&rt, alloc, &mut tasks, 4, 2);
 }
 
 /// Two reads are taken in one turn, in the order of their ids.
@@ -105,11 +101,15 @@ fn run_two(
     partner: &mut MemoryPartner,
     tasks: &mut Executor<ReadAt>,
 ) {
+    put_bytes(rt, alloc, partner, b"hello");
+    spawn_read(rt, alloc, tasks, 5, 0);
+    spawn_read(rt, alloc, tasks, 4, 1);
     assert_eq!(rt; run(alloc, engine, partner, tasks, 1), Ok(1));
     assert_event(rt, partner, 0, Event::Turn(2));
     assert_event(rt, partner, 1, Event::Take(5));
     assert_event(rt, partner, 2, Event::Take(4));
     assert_read(rt, tasks.take(1));
+    spawn_read(rt, alloc, tasks, 4, 2);
 }
 
 /// Asserts that the partner tells this event at that place.
@@ -124,11 +124,7 @@ fn one_read_a_turn(rt: HostRuntime) {
     let alloc = rt.alloc();
     let mut engine = engine_of(&rt, alloc, 1);
     let mut partner = MemoryPartner::new(alloc);
-    put_bytes(&rt, alloc, &mut partner, b"hello");
     let mut tasks = Executor::new(alloc);
-    spawn_read(&rt, alloc, &mut tasks, 0, 0);
-    spawn_read(&rt, alloc, &mut tasks, 1, 1);
-    spawn_read(&rt, alloc, &mut tasks, 2, 2);
     run_three(&rt, alloc, &mut engine, &mut partner, &mut tasks);
 }
 
@@ -139,6 +135,10 @@ fn run_three(
     partner: &mut MemoryPartner,
     tasks: &mut Executor<ReadAt>,
 ) {
+    put_bytes(rt, alloc, partner, b"hello");
+    for id in 0..3 {
+        spawn_read(rt, alloc, tasks, id as u64, id);
+    }
     let spent = Err(ExecFault::Spent);
     assert_eq!(rt; run(alloc, engine, partner, tasks, 2), spent);
     assert_eq!(rt; tasks.unfinished(), 1);

@@ -72,10 +72,19 @@ fn counts_that_fail(rt: HostRuntime) {
     let alloc = rt.alloc();
     let mut partner = posting(&rt, alloc, &[2, 0, 6]);
     let mut engine = engine_of(&rt, alloc, 1);
+    two_that_fail(&rt, alloc, &mut engine, &mut partner);
+}
+
+fn two_that_fail(
+    rt: &impl Abort,
+    alloc: Global,
+    engine: &mut Engine<IoUring>,
+    partner: &mut HostilePartner,
+) {
     let zero = Err(FsError::WriteZero);
-    assert_writes(&rt, alloc, &mut engine, &mut partner, 2, zero);
+    assert_writes(rt, alloc, engine, partner, 2, zero);
     let too_much = Err(FsError::BadCount);
-    assert_writes(&rt, alloc, &mut engine, &mut partner, 1, too_much);
+    assert_writes(rt, alloc, engine, partner, 1, too_much);
 }
 
 /// Fifteen interruptions may come, and the sixteenth ends it.
@@ -93,9 +102,13 @@ fn sixteen_interruptions(rt: HostRuntime) {
 fn empty_buffers(rt: HostRuntime) {
     let alloc = rt.alloc();
     let mut engine = engine_of(&rt, alloc, 1);
-    write_nothing(&rt, alloc, &mut engine);
-    read_nothing(&rt, alloc, &mut engine);
-    assert_in_flight(&rt, &engine, 0);
+    move_nothing(&rt, alloc, &mut engine);
+}
+
+fn move_nothing(rt: &impl Abort, alloc: Global, engine: &mut Engine<IoUring>) {
+    write_nothing(rt, alloc, engine);
+    read_nothing(rt, alloc, engine);
+    assert_in_flight(rt, engine, 0);
     assert_eq!(rt; engine.free(), 1);
 }
 
@@ -116,7 +129,6 @@ fn read_past_the_end(rt: HostRuntime) {
     let alloc = rt.alloc();
     let mut engine = engine_of(&rt, alloc, 1);
     let mut partner = MemoryPartner::new(alloc);
-    put_bytes(&rt, alloc, &mut partner, b"hello");
     read_four_of_two(&rt, alloc, &mut engine, &mut partner);
 }
 
@@ -126,6 +138,7 @@ fn read_four_of_two(
     engine: &mut Engine<IoUring>,
     partner: &mut MemoryPartner,
 ) {
+    put_bytes(rt, alloc, partner, b"hello");
     let zeros = Buf::zeroed(alloc, 4).expect(rt, "memory");
     let mut read = File::of_number(3).read_exact_at(zeros, 3);
     wait_a_turn(rt, alloc, engine, partner, &mut read);
@@ -142,9 +155,18 @@ fn each_call_of_whole_buffers(rt: HostRuntime) {
     let alloc = rt.alloc();
     let mut engine = engine_of(&rt, alloc, 1);
     let mut partner = MemoryPartner::new(alloc);
-    put_bytes(&rt, alloc, &mut partner, b"");
-    write_hello(&rt, alloc, &mut engine, &mut partner);
-    read_the_middle(&rt, alloc, &mut engine, &mut partner);
+    write_and_read(&rt, alloc, &mut engine, &mut partner);
+}
+
+fn write_and_read(
+    rt: &impl Abort,
+    alloc: Global,
+    engine: &mut Engine<IoUring>,
+    partner: &mut MemoryPartner,
+) {
+    put_bytes(rt, alloc, partner, b"");
+    write_hello(rt, alloc, engine, partner);
+    read_the_middle(rt, alloc, engine, partner);
 }
 
 fn write_hello(
