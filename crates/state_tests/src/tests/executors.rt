@@ -136,9 +136,9 @@ fn run_three(
     tasks: &mut Executor<ReadAt>,
 ) {
     put_bytes(rt, alloc, partner, b"hello");
-    for id in 0..3 {
-        spawn_read(rt, alloc, tasks, id as u64, id);
-    }
+    spawn_read(rt, alloc, tasks, 0, 0);
+    spawn_read(rt, alloc, tasks, 1, 1);
+    spawn_read(rt, alloc, tasks, 2, 2);
     let spent = Err(ExecFault::Spent);
     assert_eq!(rt; run(alloc, engine, partner, tasks, 2), spent);
     assert_eq!(rt; tasks.unfinished(), 1);
