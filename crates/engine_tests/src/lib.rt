@@ -1,4 +1,4 @@
-//! Tests of engines, of what they keep, and of the states on them, over the partners that there are.
+//! Tests of engines, and of what they keep, over the partners that there are.
 #![tactic(auto)]
 
 #[cfg(test)]

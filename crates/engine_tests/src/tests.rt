@@ -1,9 +1,7 @@
 mod engines;
-mod executors;
-mod files;
 mod handles;
+mod helpers;
 mod kept_steps;
 mod numbers;
 mod operations;
 mod quiet_ends;
-mod whole_buffers;

@@ -1,55 +1,58 @@
-use crate::tests::engines::{engine_of, nop_under};
+use crate::tests::helpers::{assert_in_flight, engine_of, start_nop};
 use rent_engine::{CancelHandle, Engine, StartFault};
 use std::alloc::Global;
 use std::process::Abort;
-use std::test::Fail;
-use uring_ring::{IoUring, SetupError};
+use uring_ring::IoUring;
 
-/// An engine with three operations in flight, of numbers 0 to 2.
-fn three_in_flight(
-    rt: &impl Abort,
-    alloc: Global,
-    entries: u32,
-) -> Result<Engine<IoUring>, SetupError> {
-    let mut engine = engine_of(alloc, entries)?;
+/// Starts three operations, of numbers 0 to 2.
+fn start_three(rt: &impl Abort, alloc: Global, engine: &mut Engine<IoUring>) {
     for number in 0..3 {
-        assert!(rt; nop_under(alloc, &mut engine, number).is_ok());
+        start_nop(rt, alloc, engine, number);
     }
-    Ok(engine)
 }
 
-/// Joins numbers 0 and 2 to a handle, and cancels it. Gives what that answers, and whether the
-/// handle is canceled.
-fn cancel_two(
-    alloc: Global,
-    engine: &mut Engine<IoUring>,
-) -> Result<(Result<u32, StartFault>, bool), StartFault> {
-    let handle: CancelHandle = engine.new_handle(alloc)?;
-    engine.join_handle(alloc, handle, 2)?;
-    engine.join_handle(alloc, handle, 0)?;
-    let canceled = engine.cancel_handle(alloc, handle);
-    Ok((canceled, engine.is_canceled(handle)))
+/// Joins numbers 0 and 2 to a new handle.
+fn join_two(rt: &impl Abort, alloc: Global, engine: &mut Engine<IoUring>) -> CancelHandle {
+    let handle = engine.new_handle(alloc).expect(rt, "memory");
+    assert!(rt; engine.join_handle(alloc, handle, 2).is_ok());
+    assert!(rt; engine.join_handle(alloc, handle, 0).is_ok());
+    handle
 }
 
-/// A cancel is started for each operation that is joined to the handle.
+/// Each call that can find no memory answers otherwise where there is memory: a cancel is started
+/// for each operation that is joined to the handle.
 #[test]
-fn cancel_of_two(rt: HostRuntime) -> Result<(), Fail> {
+fn each_call_of_handles(rt: HostRuntime) {
     let alloc = rt.alloc();
-    let mut engine = three_in_flight(&rt, alloc, 8)?;
-    let canceled = cancel_two(alloc, &mut engine);
-    assert!(rt; matches!(canceled, Ok((Ok(2), true))));
-    assert_eq!(rt; engine.in_flight(), 5);
+    let mut engine = engine_of(&rt, alloc, 8);
+    start_three(&rt, alloc, &mut engine);
+    with_room(&rt, alloc, &mut engine);
+}
+
+fn with_room(rt: &impl Abort, alloc: Global, engine: &mut Engine<IoUring>) {
+    let handle = join_two(rt, alloc, engine);
+    assert!(rt; matches!(engine.cancel_handle(alloc, handle), Ok(2)));
+    assert!(rt; engine.is_canceled(handle));
+    assert_in_flight(rt, engine, 5);
     assert_eq!(rt; engine.fresh(), 5);
-    Ok(())
 }
 
 /// Where the ring has room for one of two, nothing is canceled.
 #[test]
-fn too_little_room(rt: HostRuntime) -> Result<(), Fail> {
+fn too_little_room(rt: HostRuntime) {
     let alloc = rt.alloc();
-    let mut engine = three_in_flight(&rt, alloc, 4)?;
-    let canceled = cancel_two(alloc, &mut engine);
-    assert!(rt; matches!(canceled, Ok((Err(StartFault::RingFull(None)), false))));
-    assert_eq!(rt; engine.in_flight(), 3);
-    Ok(())
+    let mut engine = engine_of(&rt, alloc, 4);
+    start_three(&rt, alloc, &mut engine);
+    with_room_for_one(&rt, alloc, &mut engine);
+}
+
+fn has_no_room(canceled: Result<u32, StartFault>) -> bool {
+    matches!(canceled, Err(StartFault::RingFull(None)))
+}
+
+fn with_room_for_one(rt: &impl Abort, alloc: Global, engine: &mut Engine<IoUring>) {
+    let handle = join_two(rt, alloc, engine);
+    assert!(rt; has_no_room(engine.cancel_handle(alloc, handle)));
+    assert!(rt; !engine.is_canceled(handle));
+    assert_in_flight(rt, engine, 3);
 }

@@ -1,40 +1,41 @@
-use crate::tests::engines::{assert_resolved, engine_of, nop_under};
+use crate::tests::helpers::{
+    assert_in_flight, assert_resolved, engine_of, nop_under, start_nop, turn,
+};
 use bitflags::Flags as _;
-use rent_engine::{Engine, OpKey, StartFault, Step};
-use ring_traits::UserEnds;
-use std::alloc::{AllocError, Global};
+use rent_engine::{Engine, Step};
+use std::alloc::Global;
 use std::process::Abort;
-use std::test::Fail;
 use uring_base::cqueue;
 use uring_partner::{HostilePartner, LoanPlan, Scripted};
+use uring_ring::IoUring;
 
 /// A partner that posts for number 5 in three turns: results 1 and 2, and with the last one 3.
-fn three_posts(alloc: Global) -> Result<HostilePartner, AllocError> {
+fn three_posts(rt: &impl Abort, alloc: Global) -> HostilePartner {
     let more = cqueue::Flags::MORE.bits();
     let last = cqueue::Flags::empty().bits();
     let mut script = Vec::new(alloc);
     for (outcome, flags) in [(1, more), (2, more), (3, last)] {
-        script.push(Scripted::Post {
-            user_data: 5,
-            result: outcome,
-            flags,
-            loan: LoanPlan::Nothing,
-        })?;
-        script.push(Scripted::Turn)?;
+        push_post(rt, &mut script, outcome, flags);
     }
-    Ok(HostilePartner::new(alloc, script))
+    HostilePartner::new(alloc, script)
 }
 
-/// Asserts that the operation was started, and forgets it.
-pub fn forget_started<R: UserEnds>(
-    rt: &impl Abort,
-    engine: &mut Engine<R>,
-    started: Result<OpKey, StartFault>,
-) {
-    match started {
-        Ok(key) => engine.forget(key),
-        Err(_fault) => assert!(rt; false, "not started"),
-    }
+/// Adds a turn with one post.
+fn push_post(rt: &impl Abort, script: &mut Vec<Scripted>, outcome: i32, flags: u32) {
+    let post = Scripted::Post {
+        user_data: 5,
+        result: outcome,
+        flags,
+        loan: LoanPlan::Nothing,
+    };
+    assert!(rt; script.push(post).is_ok());
+    assert!(rt; script.push(Scripted::Turn).is_ok());
+}
+
+/// Starts number 5, and forgets it.
+fn start_forgotten(rt: &impl Abort, alloc: Global, engine: &mut Engine<IoUring>) {
+    let key = nop_under(alloc, engine, 5).expect(rt, "not started");
+    engine.forget(key);
 }
 
 /// The step of number 5 with this result.
@@ -48,45 +49,63 @@ fn step_with(outcome: i32) -> Step {
 
 /// Two starts on a ring of two, with room for both.
 #[test]
-fn reserved_starts(rt: HostRuntime) -> Result<(), Fail> {
+fn reserved_starts(rt: HostRuntime) {
     let alloc = rt.alloc();
-    let mut engine = engine_of(alloc, 2)?;
+    let mut engine = engine_of(&rt, alloc, 2);
+    start_reserved(&rt, alloc, &mut engine);
+}
+
+fn start_reserved(rt: &impl Abort, alloc: Global, engine: &mut Engine<IoUring>) {
     assert!(rt; engine.reserve(alloc, 2).is_ok());
-    assert!(rt; nop_under(alloc, &mut engine, 0).is_ok());
-    assert!(rt; nop_under(alloc, &mut engine, 1).is_ok());
-    Ok(())
+    start_nop(rt, alloc, engine, 0);
+    start_nop(rt, alloc, engine, 1);
 }
 
 /// An operation that was forgotten is in flight until its last completion, and keeps no step.
 #[test]
-fn forgotten_until_the_last(rt: HostRuntime) -> Result<(), Fail> {
+fn forgotten_until_the_last(rt: HostRuntime) {
     let alloc = rt.alloc();
-    let mut engine = engine_of(alloc, 2)?;
-    let mut partner = three_posts(alloc)?;
-    let started = nop_under(alloc, &mut engine, 5);
-    forget_started(&rt, &mut engine, started);
+    let mut partner = three_posts(&rt, alloc);
+    let mut engine = engine_of(&rt, alloc, 2);
+    start_forgotten(&rt, alloc, &mut engine);
+    turns_without_steps(&rt, alloc, &mut engine, &mut partner);
+    start_nop(&rt, alloc, &mut engine, 5);
+}
+
+fn turns_without_steps(
+    rt: &impl Abort,
+    alloc: Global,
+    engine: &mut Engine<IoUring>,
+    partner: &mut HostilePartner,
+) {
     for in_flight in [1, 1, 0] {
-        assert!(rt; engine.turn(alloc, &mut partner).is_ok());
-        assert_eq!(rt; engine.in_flight(), in_flight);
+        turn(rt, alloc, engine, partner);
+        assert_in_flight(rt, engine, in_flight);
         assert_eq!(rt; engine.next_step(5), None);
     }
-    assert!(rt; nop_under(alloc, &mut engine, 5).is_ok());
-    Ok(())
 }
 
 /// The steps of an operation come out in order, and then its result.
 #[test]
-fn steps_then_the_result(rt: HostRuntime) -> Result<(), Fail> {
+fn steps_then_the_result(rt: HostRuntime) {
     let alloc = rt.alloc();
-    let mut engine = engine_of(alloc, 2)?;
-    let mut partner = three_posts(alloc)?;
-    let started = nop_under(alloc, &mut engine, 5);
+    let mut partner = three_posts(&rt, alloc);
+    let mut engine = engine_of(&rt, alloc, 2);
+    steps_in_order(&rt, alloc, &mut engine, &mut partner);
+}
+
+fn steps_in_order(
+    rt: &impl Abort,
+    alloc: Global,
+    engine: &mut Engine<IoUring>,
+    partner: &mut HostilePartner,
+) {
+    let started = nop_under(alloc, engine, 5);
     for _ in 0..3 {
-        assert!(rt; engine.turn(alloc, &mut partner).is_ok());
+        turn(rt, alloc, engine, partner);
     }
     assert_eq!(rt; engine.next_step(5), Some(step_with(1)));
     assert_eq!(rt; engine.next_step(5), Some(step_with(2)));
     assert_eq!(rt; engine.next_step(5), None);
-    assert_resolved(&rt, &mut engine, started, 3);
-    Ok(())
+    assert_resolved(rt, engine, started, 3);
 }

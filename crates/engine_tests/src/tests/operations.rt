@@ -1,61 +1,77 @@
 use rent_table::{CancelHandle, OpDone, Operations};
-use std::alloc::AllocError;
-use std::test::Fail;
+use std::process::Abort;
 
 /// Each call that can find no memory answers otherwise where there is memory.
 #[test]
-fn each_call(rt: HostRuntime) -> Result<(), Fail> {
+fn each_call(rt: HostRuntime) {
     let mut operations = Operations::new(rt.alloc());
     assert!(rt; operations.reserve(3).is_ok());
     assert!(rt; operations.reserve_step().is_ok());
-    assert!(rt; joins_twice(&mut operations).is_ok());
-    Ok(())
+    joins_twice(&rt, &mut operations);
+}
+
+/// An operation is joined to two handles, and what is joined to the second is listed.
+fn joins_twice(rt: &impl Abort, operations: &mut Operations) {
+    let (first, second) = two_handles(rt, operations);
+    start(rt, operations, 9);
+    join(rt, operations, first, 9);
+    join(rt, operations, second, 9);
+    assert_joined(rt, operations, second, &[9]);
+}
+
+fn two_handles(rt: &impl Abort, operations: &mut Operations) -> (CancelHandle, CancelHandle) {
+    let first = operations.new_handle().expect(rt, "memory");
+    let second = operations.new_handle().expect(rt, "memory");
+    (first, second)
+}
+
+fn start(rt: &impl Abort, operations: &mut Operations, number: u64) {
+    assert!(rt; operations.reserve(1).is_ok());
+    if !operations.knows(number) {
+        operations.start(number, false);
+    }
+}
+
+fn join(rt: &impl Abort, operations: &mut Operations, handle: CancelHandle, number: u64) {
+    assert!(rt; operations.join(handle, number).is_ok());
+}
+
+/// Asserts that exactly these numbers are joined to the handle.
+fn assert_joined(rt: &impl Abort, operations: &Operations, handle: CancelHandle, numbers: &[u64]) {
+    let joined = operations.joined(handle).expect(rt, "memory");
+    assert_eq!(rt; joined.as_slice(), numbers);
 }
 
 /// The joins of an operation end with it, and no others. Of the operations 9, 2 and 5 the first is
 /// joined to both handles, and the last to the first handle.
 #[test]
-fn joins_end(rt: HostRuntime) -> Result<(), Fail> {
+fn joins_end(rt: HostRuntime) {
     let mut operations = Operations::new(rt.alloc());
-    let (first, second) = three_started(&mut operations)?;
-    assert!(rt; are_joined(&operations, first, &[5, 9], second, &[9])?);
+    let (first, second) = two_handles(&rt, &mut operations);
+    start_three(&rt, &mut operations);
+    join_three(&rt, &mut operations, first, second);
     resolve(&mut operations, 9);
-    assert!(rt; are_joined(&operations, first, &[5], second, &[])?);
-    Ok(())
+    assert_joined(&rt, &operations, first, &[5]);
+    assert_joined(&rt, &operations, second, &[]);
 }
 
-/// An operation is joined to two handles, and what is joined to the second is listed.
-fn joins_twice(operations: &mut Operations) -> Result<Vec<u64>, AllocError> {
-    let (first, second) = two_handles(operations)?;
-    start(operations, 9)?;
-    operations.join(first, 9)?;
-    operations.join(second, 9)?;
-    operations.joined(second)
-}
-
-fn two_handles(operations: &mut Operations) -> Result<(CancelHandle, CancelHandle), AllocError> {
-    let first = operations.new_handle()?;
-    let second = operations.new_handle()?;
-    Ok((first, second))
-}
-
-fn three_started(operations: &mut Operations) -> Result<(CancelHandle, CancelHandle), AllocError> {
-    let (first, second) = two_handles(operations)?;
-    start(operations, 9)?;
-    start(operations, 2)?;
-    start(operations, 5)?;
-    operations.join(first, 9)?;
-    operations.join(second, 9)?;
-    operations.join(first, 5)?;
-    Ok((first, second))
-}
-
-fn start(operations: &mut Operations, number: u64) -> Result<(), AllocError> {
-    operations.reserve(1)?;
-    if !operations.knows(number) {
-        operations.start(number, false);
+fn start_three(rt: &impl Abort, operations: &mut Operations) {
+    for number in [9, 2, 5] {
+        start(rt, operations, number);
     }
-    Ok(())
+}
+
+fn join_three(
+    rt: &impl Abort,
+    operations: &mut Operations,
+    first: CancelHandle,
+    second: CancelHandle,
+) {
+    join(rt, operations, first, 9);
+    join(rt, operations, second, 9);
+    join(rt, operations, first, 5);
+    assert_joined(rt, operations, first, &[5, 9]);
+    assert_joined(rt, operations, second, &[9]);
 }
 
 fn resolve(operations: &mut Operations, number: u64) {
@@ -68,23 +84,4 @@ fn resolve(operations: &mut Operations, number: u64) {
         };
         operations.resolve(number, flight, outcome);
     }
-}
-
-/// Whether exactly these numbers are joined to each of the two handles.
-fn are_joined(
-    operations: &Operations,
-    first: CancelHandle,
-    to_first: &[u64],
-    second: CancelHandle,
-    to_second: &[u64],
-) -> Result<bool, AllocError> {
-    Ok(has_joined(operations, first, to_first)? && has_joined(operations, second, to_second)?)
-}
-
-fn has_joined(
-    operations: &Operations,
-    handle: CancelHandle,
-    numbers: &[u64],
-) -> Result<bool, AllocError> {
-    Ok(operations.joined(handle)?.as_slice() == numbers)
 }

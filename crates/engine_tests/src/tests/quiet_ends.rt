@@ -1,18 +1,19 @@
 ghost use Rattle.std.specs.Prelude.{◌≢◌};
 
-use crate::tests::engines::{completion, engine_of, nop_under};
-use crate::tests::kept_steps::forget_started;
-use rent_engine::{Engine, OpKey, OpPoll, StartFault};
-use ring_traits::UserEnds;
+use crate::tests::helpers::{
+    assert_completes, assert_ended, assert_in_flight, assert_resolved, completion, engine_of,
+    nop_under, start_nop,
+};
+use rent_engine::{Engine, OpKey, StartFault};
 use std::alloc::Global;
 use std::process::Abort;
-use std::test::Fail;
 use uring_base::squeue::Flags;
 use uring_ops_file::Nop;
+use uring_ring::IoUring;
 
-pub fn quiet_under<R: UserEnds>(
+pub fn quiet_under(
     alloc: Global,
-    engine: &mut Engine<R>,
+    engine: &mut Engine<IoUring>,
     number: u64,
     next: u64,
 ) -> Result<OpKey, StartFault>
@@ -23,100 +24,99 @@ pub fn quiet_under<R: UserEnds>(
 }
 
 /// Takes a final completion of this number, with result 7.
-fn complete_last<R: UserEnds>(rt: &impl Abort, engine: &mut Engine<R>, number: u64) {
-    assert_eq!(rt; engine.complete(completion(number, 0, None)), Ok(None));
+fn complete_last(rt: &impl Abort, engine: &mut Engine<IoUring>, number: u64) {
+    assert_completes(rt, engine, completion(number, 0, None), Ok(None));
 }
 
-/// Asserts that the operation was started and is resolved, with result 0 and quietly, or with
-/// result 7 and by its own completion.
-fn assert_ended<R: UserEnds>(
-    rt: &impl Abort,
-    engine: &mut Engine<R>,
-    started: Result<OpKey, StartFault>,
-    quiet: bool,
-) {
-    match started {
-        Ok(key) => match engine.poll(key) {
-            OpPoll::Ready(done) => {
-                assert_eq!(rt; done.quiet, quiet);
-                assert_eq!(rt; done.result, if quiet { 0 } else { 7 });
-            }
-            OpPoll::Pending(_key) => assert!(rt; false, "in flight"),
-            OpPoll::Lost(_key) => assert!(rt; false, "lost"),
-        },
-        Err(_fault) => assert!(rt; false, "not started"),
-    }
+/// Asserts that the operation was started and is resolved quietly, with result 0.
+fn assert_quiet(rt: &impl Abort, engine: &mut Engine<IoUring>, started: Result<OpKey, StartFault>) {
+    assert_ended(rt, engine, started, (0, true));
 }
 
 /// A quiet operation is resolved with its next number.
 #[test]
-fn with_the_next(rt: HostRuntime) -> Result<(), Fail> {
+fn with_the_next(rt: HostRuntime) {
     let alloc = rt.alloc();
-    let mut engine = engine_of(alloc, 2)?;
-    let first = quiet_under(alloc, &mut engine, 0, 1);
-    let second = nop_under(alloc, &mut engine, 1);
-    assert_eq!(rt; engine.in_flight(), 2);
-    complete_last(&rt, &mut engine, 1);
-    assert_eq!(rt; engine.in_flight(), 0);
-    assert_ended(&rt, &mut engine, first, true);
-    assert_ended(&rt, &mut engine, second, false);
-    Ok(())
+    let mut engine = engine_of(&rt, alloc, 2);
+    quiet_then_plain(&rt, alloc, &mut engine);
+}
+
+fn quiet_then_plain(rt: &impl Abort, alloc: Global, engine: &mut Engine<IoUring>) {
+    let first = quiet_under(alloc, engine, 0, 1);
+    let second = nop_under(alloc, engine, 1);
+    assert_in_flight(rt, engine, 2);
+    complete_last(rt, engine, 1);
+    assert_in_flight(rt, engine, 0);
+    assert_quiet(rt, engine, first);
+    assert_resolved(rt, engine, second, 7);
 }
 
 /// A chain of three, two of which are quiet.
 #[test]
-fn chain_of_three(rt: HostRuntime) -> Result<(), Fail> {
+fn chain_of_three(rt: HostRuntime) {
     let alloc = rt.alloc();
-    let mut engine = engine_of(alloc, 4)?;
-    let first = quiet_under(alloc, &mut engine, 0, 1);
-    let second = quiet_under(alloc, &mut engine, 1, 2);
-    let third = nop_under(alloc, &mut engine, 2);
-    complete_last(&rt, &mut engine, 2);
-    assert_ended(&rt, &mut engine, first, true);
-    assert_ended(&rt, &mut engine, second, true);
-    assert_ended(&rt, &mut engine, third, false);
-    Ok(())
+    let mut engine = engine_of(&rt, alloc, 4);
+    two_quiet_then_plain(&rt, alloc, &mut engine);
+}
+
+fn two_quiet_then_plain(rt: &impl Abort, alloc: Global, engine: &mut Engine<IoUring>) {
+    let first = quiet_under(alloc, engine, 0, 1);
+    let second = quiet_under(alloc, engine, 1, 2);
+    let third = nop_under(alloc, engine, 2);
+    complete_last(rt, engine, 2);
+    assert_quiet(rt, engine, first);
+    assert_quiet(rt, engine, second);
+    assert_resolved(rt, engine, third, 7);
 }
 
 /// A chain goes on through an operation that was forgotten, whose number is free then.
 #[test]
-fn forgotten_in_the_middle(rt: HostRuntime) -> Result<(), Fail> {
+fn forgotten_in_the_middle(rt: HostRuntime) {
     let alloc = rt.alloc();
-    let mut engine = engine_of(alloc, 4)?;
-    let first = quiet_under(alloc, &mut engine, 0, 1);
-    let second = quiet_under(alloc, &mut engine, 1, 2);
-    forget_started(&rt, &mut engine, second);
-    assert!(rt; nop_under(alloc, &mut engine, 2).is_ok());
-    complete_last(&rt, &mut engine, 2);
-    assert_eq!(rt; engine.in_flight(), 0);
+    let mut engine = engine_of(&rt, alloc, 4);
+    quiet_forgotten_plain(&rt, alloc, &mut engine);
+}
+
+fn quiet_forgotten_plain(rt: &impl Abort, alloc: Global, engine: &mut Engine<IoUring>) {
+    let first = quiet_under(alloc, engine, 0, 1);
+    let second = quiet_under(alloc, engine, 1, 2).expect(rt, "not started");
+    engine.forget(second);
+    start_nop(rt, alloc, engine, 2);
+    complete_last(rt, engine, 2);
+    assert_in_flight(rt, engine, 0);
     assert_eq!(rt; engine.fresh(), 1);
-    assert_ended(&rt, &mut engine, first, true);
-    Ok(())
+    assert_quiet(rt, engine, first);
 }
 
 /// A quiet operation that fails is resolved by its own completion, and the next one stays.
 #[test]
-fn by_its_own_completion(rt: HostRuntime) -> Result<(), Fail> {
+fn by_its_own_completion(rt: HostRuntime) {
     let alloc = rt.alloc();
-    let mut engine = engine_of(alloc, 2)?;
-    let first = quiet_under(alloc, &mut engine, 0, 1);
-    assert!(rt; nop_under(alloc, &mut engine, 1).is_ok());
-    complete_last(&rt, &mut engine, 0);
-    assert_eq!(rt; engine.in_flight(), 1);
-    assert_ended(&rt, &mut engine, first, false);
-    Ok(())
+    let mut engine = engine_of(&rt, alloc, 2);
+    quiet_that_fails(&rt, alloc, &mut engine);
+}
+
+fn quiet_that_fails(rt: &impl Abort, alloc: Global, engine: &mut Engine<IoUring>) {
+    let first = quiet_under(alloc, engine, 0, 1);
+    start_nop(rt, alloc, engine, 1);
+    complete_last(rt, engine, 0);
+    assert_in_flight(rt, engine, 1);
+    assert_resolved(rt, engine, first, 7);
 }
 
 /// A circle of next numbers ends.
 #[test]
-fn circle_of_two(rt: HostRuntime) -> Result<(), Fail> {
+fn circle_of_two(rt: HostRuntime) {
     let alloc = rt.alloc();
-    let mut engine = engine_of(alloc, 2)?;
-    let first = quiet_under(alloc, &mut engine, 0, 1);
-    let second = quiet_under(alloc, &mut engine, 1, 0);
-    complete_last(&rt, &mut engine, 0);
-    assert_eq!(rt; engine.in_flight(), 0);
-    assert_ended(&rt, &mut engine, first, false);
-    assert_ended(&rt, &mut engine, second, true);
-    Ok(())
+    let mut engine = engine_of(&rt, alloc, 2);
+    quiet_in_a_circle(&rt, alloc, &mut engine);
+}
+
+fn quiet_in_a_circle(rt: &impl Abort, alloc: Global, engine: &mut Engine<IoUring>) {
+    let first = quiet_under(alloc, engine, 0, 1);
+    let second = quiet_under(alloc, engine, 1, 0);
+    complete_last(rt, engine, 0);
+    assert_in_flight(rt, engine, 0);
+    assert_resolved(rt, engine, first, 7);
+    assert_quiet(rt, engine, second);
 }

@@ -1,0 +1,5 @@
+//! Tests of states on engines, and of the executor, over the partners that there are.
+#![tactic(auto)]
+
+#[cfg(test)]
+mod tests;

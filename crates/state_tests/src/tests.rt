@@ -1,0 +1,4 @@
+mod executors;
+mod files;
+mod helpers;
+mod whole_buffers;
