@@ -35,8 +35,8 @@ const FEW_AT_ONCE: Load = Load {
 
 /// A million operations and some more, 32,768 at once.
 const MANY_AT_ONCE: Load = Load {
-    partners: 31,
-    lots: 1,
+    partners: 1,
+    lots: 31,
     lot: MAX_ENTRIES,
 };
 
