@@ -1,5 +1,5 @@
 use crate::tests::helpers::{
-    assert_in_flight, assert_waits, engine_of, posting, put_bytes, turn, wait_a_turn,
+    assert_in_flight, assert_moves, assert_waits, engine_of, posting, put_bytes, turn, wait_a_turn,
 };
 use rent_engine::{Engine, EngineFault, OpState, Poll, StartFault};
 use rent_fs::{File, FsError, ReadAt, Sync};
@@ -12,36 +12,6 @@ use uring_base::squeue::Flags;
 use uring_partner::{HostilePartner, MemoryPartner};
 use uring_ring::IoUring;
 use uring_submit::SubmitError;
-
-/// Asserts that a read or a write is done now, with this answer and these bytes.
-fn assert_gives(
-    rt: &impl Abort,
-    polled: Poll<(Result<usize, FsError>, Buf)>,
-    answer: Result<usize, FsError>,
-    bytes: &[u8],
-) {
-    match polled {
-        Poll::Ready((given, buf)) => {
-            assert_eq!(rt; given, answer);
-            assert_eq!(rt; buf.as_slice(), bytes);
-        }
-        Poll::Pending => assert!(rt; false, "pending"),
-    }
-}
-
-/// Asserts that the read is done at its next poll, with this answer and these bytes.
-fn assert_reads(
-    rt: &impl Abort,
-    alloc: Global,
-    engine: &mut Engine<IoUring>,
-    read: &mut ReadAt,
-    answer: Result<usize, FsError>,
-    bytes: &[u8],
-) {
-    assert!(rt; !read.is_done());
-    assert_gives(rt, read.poll(alloc, engine), answer, bytes);
-    assert!(rt; read.is_done());
-}
 
 /// Asserts that the sync is done at its next poll, with this answer.
 fn assert_syncs(
@@ -81,8 +51,7 @@ fn write_hello(
     let bytes = Buf::from_slice(alloc, b"hello").expect(rt, "memory");
     let mut write = File::of_number(3).write_at(bytes, 0);
     wait_a_turn(rt, alloc, engine, partner, &mut write);
-    assert!(rt; !write.is_done());
-    assert_gives(rt, write.poll(alloc, engine), Ok(5), b"hello");
+    assert_moves(rt, alloc, engine, &mut write, Ok(5), b"hello");
 }
 
 /// A read of three bytes finds one.
@@ -96,7 +65,7 @@ fn read_the_last(
     let mut read = File::of_number(3).read_at(zeros, 4);
     assert_waits(rt, alloc, engine, &mut read);
     wait_a_turn(rt, alloc, engine, partner, &mut read);
-    assert_reads(rt, alloc, engine, &mut read, Ok(1), b"o\0\0");
+    assert_moves(rt, alloc, engine, &mut read, Ok(1), b"o\0\0");
 }
 
 fn sync_both_ways(
@@ -138,7 +107,7 @@ fn second_of_the_number(rt: &impl Abort, alloc: Global, engine: &mut Engine<IoUr
     let zero = Buf::zeroed(alloc, 1).expect(rt, "memory");
     let mut second = File::of_number(9).read_at(zero, 0).with_number(5);
     let in_use = Err(FsError::KeyInUse);
-    assert_reads(rt, alloc, engine, &mut second, in_use, b"\0");
+    assert_moves(rt, alloc, engine, &mut second, in_use, b"\0");
 }
 
 /// A third read waits until the first is over, whose file isn't there.
@@ -155,7 +124,7 @@ fn third_waits(
     assert_in_flight(rt, engine, 1);
     turn(rt, alloc, engine, partner);
     let no_file = Err(FsError::Os(EBADF.cast_unsigned()));
-    assert_reads(rt, alloc, engine, first, no_file, b"\0");
+    assert_moves(rt, alloc, engine, first, no_file, b"\0");
     assert_waits(rt, alloc, engine, &mut third);
     assert_in_flight(rt, engine, 1);
 }
@@ -179,7 +148,7 @@ fn read_on_two(
     let zero = Buf::zeroed(alloc, 1).expect(rt, "memory");
     let mut read = File::of_number(3).read_at(zero, 0);
     assert_waits(rt, alloc, one, &mut read);
-    assert_reads(rt, alloc, other, &mut read, Err(FsError::KeyLost), b"");
+    assert_moves(rt, alloc, other, &mut read, Err(FsError::KeyLost), b"");
 }
 
 /// A count above the buffer's length is told as it came, and so is an interruption.
@@ -217,7 +186,7 @@ fn turn_of_a_read(
     answer: Result<usize, FsError>,
 ) {
     wait_a_turn(rt, alloc, engine, partner, read);
-    assert_reads(rt, alloc, engine, read, answer, b"\0\0");
+    assert_moves(rt, alloc, engine, read, answer, b"\0\0");
 }
 
 /// A sync of a file that isn't there, of a number in use, and of another engine's operation.

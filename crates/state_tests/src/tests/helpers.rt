@@ -2,8 +2,10 @@
 //! neither an engine nor a partner.
 
 use partner_traits::{Partner, Seedable};
-use rent_engine::{Engine, OpState};
+use rent_engine::{Engine, OpState, Poll};
+use rent_fs::FsError;
 use std::alloc::Global;
+use std::fmt::Debug;
 use std::process::Abort;
 use uring_base::Buf;
 use uring_partner::{HostilePartner, LoanPlan, MemoryPartner, Scripted};
@@ -84,4 +86,34 @@ where
 {
     assert_waits(rt, alloc, engine, task);
     turn(rt, alloc, engine, partner);
+}
+
+/// Asserts that the state is done at its next poll, with this answer and these bytes.
+pub fn assert_moves<O: PartialEq + Debug + Drop, T: OpState<Output = (Result<O, FsError>, Buf)>>(
+    rt: &impl Abort,
+    alloc: Global,
+    engine: &mut Engine<IoUring>,
+    task: &mut T,
+    answer: Result<O, FsError>,
+    bytes: &[u8],
+) {
+    assert!(rt; !task.is_done());
+    assert_gives(rt, task.poll(alloc, engine), answer, bytes);
+    assert!(rt; task.is_done());
+}
+
+/// Asserts that a state is done now, with this answer and these bytes.
+fn assert_gives<O: PartialEq + Debug + Drop>(
+    rt: &impl Abort,
+    polled: Poll<(Result<O, FsError>, Buf)>,
+    answer: Result<O, FsError>,
+    bytes: &[u8],
+) {
+    match polled {
+        Poll::Ready((given, buf)) => {
+            assert_eq!(rt; given, answer);
+            assert_eq!(rt; buf.as_slice(), bytes);
+        }
+        Poll::Pending => assert!(rt; false, "pending"),
+    }
 }

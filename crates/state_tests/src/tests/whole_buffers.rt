@@ -1,7 +1,7 @@
 use crate::tests::helpers::{
-    assert_in_flight, assert_waits, engine_of, posting, put_bytes, turn, wait_a_turn,
+    assert_in_flight, assert_moves, assert_waits, engine_of, posting, put_bytes, turn, wait_a_turn,
 };
-use rent_engine::{Engine, OpState, Poll};
+use rent_engine::Engine;
 use rent_fs::{File, FsError};
 use std::alloc::Global;
 use std::process::Abort;
@@ -9,36 +9,6 @@ use uring_base::Buf;
 use uring_base::errno::EINTR;
 use uring_partner::{HostilePartner, MemoryPartner};
 use uring_ring::IoUring;
-
-/// Asserts that the state is done now, with this answer and these bytes.
-fn assert_gives(
-    rt: &impl Abort,
-    polled: Poll<(Result<(), FsError>, Buf)>,
-    answer: Result<(), FsError>,
-    bytes: &[u8],
-) {
-    match polled {
-        Poll::Ready((given, buf)) => {
-            assert_eq!(rt; given, answer);
-            assert_eq!(rt; buf.as_slice(), bytes);
-        }
-        Poll::Pending => assert!(rt; false, "pending"),
-    }
-}
-
-/// Asserts that the state is done at its next poll, with this answer and these bytes.
-fn assert_moves<T: OpState<Output = (Result<(), FsError>, Buf)>>(
-    rt: &impl Abort,
-    alloc: Global,
-    engine: &mut Engine<IoUring>,
-    task: &mut T,
-    answer: Result<(), FsError>,
-    bytes: &[u8],
-) {
-    assert!(rt; !task.is_done());
-    assert_gives(rt, task.poll(alloc, engine), answer, bytes);
-    assert!(rt; task.is_done());
-}
 
 /// Asserts that the write of five bytes waits for so many turns, and then gives this answer.
 fn assert_writes(
