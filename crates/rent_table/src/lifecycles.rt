@@ -256,7 +256,8 @@ impl Lifecycles {
         }
     }
 
-    /// The numbers that are joined to a handle. It goes over all that is in flight or resolved.
+    /// The numbers that are joined to a handle. It goes over each place that there ever was,
+    /// whether it is taken or not.
     pub(crate) fn joined(&self, alloc: Global, handle: u64) -> Result<Vec<u64>, AllocError>
         ensures { IfOk result (λ numbers. AreJoined self.now.ops handle numbers.items) }
     {

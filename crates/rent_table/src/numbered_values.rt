@@ -13,8 +13,8 @@ use std::marker::Model;
 use std::mem::replace;
 
 /// Values by number. That of a small number has its place in a list, by its number; the others
-/// stand in a slab. The list has as many places as there ever were values, so the least numbers
-/// that have none are small.
+/// stand in a slab. The list has as many places as there ever was room asked for, so the
+/// least numbers that have none are small.
 #[derive(Drop)]
 pub(crate) struct NumberedValues<T> {
     near: Vec<Option<T>>,

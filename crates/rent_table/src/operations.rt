@@ -297,7 +297,8 @@ impl Operations {
         self.lifecycles.join(self.alloc, handle.number, number)
     }
 
-    /// The numbers that are joined to a handle. It goes over all that is in flight or resolved.
+    /// The numbers that are joined to a handle. It goes over each place that there ever was,
+    /// whether it is taken or not.
     pub fn joined(&self, handle: CancelHandle) -> Result<Vec<u64>, AllocError>
         ensures { IfOk result (λ numbers. AreJoined self.now.ops handle numbers.items) }
     {

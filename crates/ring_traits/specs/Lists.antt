@@ -100,4 +100,4 @@ where_kept false n = 0
 
 -- a counter of 32 bits after one more, which stays at its last value
 abbrev pub one_more : ℕ → ℕ
-one_more n = min (n + 1) 4294967295
+one_more n = min (n + 1) (2 ^ 32 - 1)

@@ -202,7 +202,7 @@ impl SetSockOpt {
     {
         Entry {
             off: SET_SOCK_OPT,
-            addr: u64::from(self.level) + u64::from(self.optname) * 0x1_0000_0000,
+            addr: u64::from(self.level) + (u64::from(self.optname) << 32),
             op: self.flags,
             idx: self.optlen,
             third: self.optval,
