@@ -1,20 +1,20 @@
 -- At the end of a run the replay is whole and the partner idle.
-use Rattle.std.specs.Prelude.{◌≡◌, ℕ, ◌+◌, slice_get, slice_set, zero, suc, Bool, true, false, List, [], ◌∷◌, ◌++◌, length, map, replicate, Option, Some, None, refl, All, IsSome}
+use Rattle.std.specs.Prelude.{◌≡◌, ℕ, ◌+◌, slice_get, slice_set, zero, suc, Bool, true, false, List, [], ◌∷◌, ◌++◌, length, map, replicate, pos, Option, Some, None, refl, All, IsSome}
 use Rattle.std.specs.List.{AllByRecursion}
 use Rattle.std.proofs.lemmas.List.Elements.{All-from_recursion, recursion_from_All}
 use Rattle.std.proofs.lemmas.Option.{same_Some}
 use Rattle.std.proofs.Common.{ap, sym, subst, ◌∙◌, append-nil, arith}
 use Rattle.uring_base.specs.declared.events.Taken.{Taken}
-use Rattle.uring_base.specs.declared.events.Completion.{Completion}
 use Rattle.uring_model.specs.declared.jobs.Link.{Link}
 use Rattle.uring_base.specs.Loans.{part_of}
 use Rattle.uring_model.specs.declared.jobs.Link.TheVariants.{Free}
 use Rattle.uring_model.specs.Machine.{Files}
 use Rattle.uring_model.specs.Jobs.{Job, linked}
 use Rattle.uring_model.specs.Replay.{Result, Row, Open, Done, ReplayState, cuts, all_done, last_unlinked, replay, IsWhole, outcomes, table}
-use Rattle.uring_model.specs.Moves.{Move, took, posted, journal_of, log_of}
+use Rattle.uring_model.specs.Moves.{Move, Turned, Took, Posted, Quieted, took, journal_of, log_of}
+use Rattle.uring_model.specs.Progress.{settlings}
 use Rattle.uring_model.specs.Partner.{job_of, PartnerState, cut_of, tail_for, is_nil, Steps, IsIdle, idle}
-use Rattle.uring_model.specs.Explained.{Numbered, record_one, record_all, AllFresh, Explained}
+use Rattle.uring_model.specs.Explained.{Numbered, record_post, record_quiet, record_all, AllFresh, Explained}
 use Rattle.uring_model.proofs.Lines.{Line, Held, Gone, rows_of, takens, held_tail, gone_tail, view, tail_after, nil_done}
 use Rattle.uring_model.proofs.Simulation.{Related, explained}
 
@@ -47,7 +47,7 @@ whole_table s w = ap (λ l. outcomes s.rows ++ replicate (length l) None) w.take
 pub set_where_whole : (s : ReplayState) → IsWhole s → All IsSome (table s)
 set_where_whole s w = All-from_recursion IsSome (table s) (subst (AllByRecursion IsSome) (sym (whole_table s w)) (done_rows s.rows w.settled))
 
--- each completion that is the first of its job sets one outcome
+-- each settling that is the first of its job sets one outcome
 
 unset : List (Option Result) → ℕ
 unset [] = 0
@@ -62,9 +62,12 @@ set_one (Some q ∷ outs) zero r e = cc
 set_one (None ∷ outs) (suc j) r e = omega (arith, set_one outs j r e)
 set_one (Some q ∷ outs) (suc j) r e = set_one outs j r e
 
-set_each : (outs : List (Option Result)) (cs : List Completion) → AllFresh outs cs → unset (record_all outs cs) + length cs ≡ unset outs
+set_each : (outs : List (Option Result)) (ms : List Move) → AllFresh outs ms → unset (record_all outs ms) + settlings ms ≡ unset outs
 set_each outs [] h = omega arith
-set_each outs (c ∷ cs) h = omega (arith, set_each (record_one outs c) cs h.1, set_one outs c.user_data (record { result = c.result; buf = part_of c.loan }) h.0)
+set_each outs (Turned p ∷ ms) h = set_each outs ms h
+set_each outs (Took t ∷ ms) h = set_each outs ms h
+set_each outs (Posted c ∷ ms) h = omega (arith, set_each (record_post outs c) ms h.1, set_one outs c.user_data (record { result = c.result; buf = part_of c.loan }) h.0)
+set_each outs (Quieted n ∷ ms) h = omega (arith, set_each (record_quiet outs n) ms h.1, set_one outs n (record { result = pos 0; buf = [] }) h.0)
 
 unset_none : (n : ℕ) → unset (replicate n None) ≡ n
 unfolding unset
@@ -77,11 +80,10 @@ all_set [] h = tt
 all_set (None ∷ outs) h = absurd (omega arith)
 all_set (Some r ∷ outs) h = (refl, all_set outs h)
 
-pub whole_by_count : (jobs : List Job) (files : Files) (choices : List ℕ) (ms : List Move) (b : PartnerState) (e : Explained jobs files choices ms b) → length (posted ms) ≡ length jobs → IsWhole e.state
+pub whole_by_count : (jobs : List Job) (files : Files) (choices : List ℕ) (ms : List Move) (b : PartnerState) (e : Explained jobs files choices ms b) → settlings ms ≡ length jobs → IsWhole e.state
 whole_by_count jobs files choices ms b e n =
-    let outs = record_all (replicate (length jobs) None) (posted ms) in
-    let none : unset (record_all (replicate (length jobs) None) (posted ms)) ≡ 0 = omega (arith, set_each (replicate (length jobs) None) (posted ms) e.fresh, unset_none (length jobs)) in
-    whole_where_set e.state (All-from_recursion IsSome (table e.state) (subst (AllByRecursion IsSome) (sym e.outcomes) (all_set (record_all (replicate (length jobs) None) (posted ms)) none)))
+    let none : unset (record_all (replicate (length jobs) None) ms) ≡ 0 = omega (arith, set_each (replicate (length jobs) None) ms e.fresh, unset_none (length jobs)) in
+    whole_where_set e.state (All-from_recursion IsSome (table e.state) (subst (AllByRecursion IsSome) (sym e.outcomes) (all_set (record_all (replicate (length jobs) None) ms) none)))
 
 -- what was taken and what is to come are the entries
 
@@ -123,11 +125,11 @@ ends_free : (c : Option Bool) (ls : List Line) (job : Job) (jobs : List Job) →
 ends_free c [] job [] e = cc
 ends_free c [] job (k ∷ jobs) e = cc
 ends_free c (Held t m ∷ ls) job [] e =
-    let p : job_of t ≡ record { op = job.op; buf = job.buf; drain = job.drain; link = Free } = cc in
+    let p : job_of t ≡ record job { link = Free } = cc in
     let none : map job_of (takens ls) ≡ [] = cc in
     ap (tail_after (held_tail t)) (no_lines ls none) ∙ freed (job_of t).link false (ap (λ j. j.link) p)
 ends_free c (Gone t r ∷ ls) job [] e =
-    let p : job_of t ≡ record { op = job.op; buf = job.buf; drain = job.drain; link = Free } = cc in
+    let p : job_of t ≡ record job { link = Free } = cc in
     let none : map job_of (takens ls) ≡ [] = cc in
     ap (tail_after (gone_tail c t r)) (no_lines ls none) ∙ freed (job_of t).link (cuts (cut_of c) (job_of t) r.result) (ap (λ j. j.link) p)
 ends_free c (Held t m ∷ ls) job (k ∷ jobs) e = ends_free (held_tail t) ls k jobs (cc)

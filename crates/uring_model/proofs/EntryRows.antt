@@ -10,7 +10,7 @@ use Rattle.uring_base.specs.Targets.{on}
 use Rattle.uring_model.specs.declared.jobs.Link.TheVariants.{Free, Soft, Hard}
 use Rattle.uring_model.specs.Machine.{Files, Nop, Read, Write, Fsync, Ftruncate, Cancel, Refused, step}
 use Rattle.uring_model.specs.Partner.{op_of, job_of, idle}
-use Rattle.uring_model.specs.Turn.{turn}
+use Rattle.uring_model.specs.Turn.{EntryEnd, ByPost, Quietly, posts_of, turn}
 
 abbrev plain : Entry → Taken
 plain e = record { entry = e; loan = None; big = replicate 64 0 }
@@ -32,13 +32,13 @@ read_entry file buf len offset = on_file 22 file buf len offset
 abbrev write_entry : ℕ → ℕ → ℕ → ℕ → Entry
 write_entry file buf len offset = on_file 23 file buf len offset
 
-nop : job_of (plain nop_entry) ≡ record { op = Nop; buf = []; drain = false; link = Free }
+nop : job_of (plain nop_entry) ≡ record { op = Nop; buf = []; drain = false; quiet = false; link = Free }
 nop = refl
 
-read : job_of (lent (read_entry 3 7 2 10)) ≡ record { op = Read 3 10; buf = 8 ∷ 7 ∷ []; drain = false; link = Free }
+read : job_of (lent (read_entry 3 7 2 10)) ≡ record { op = Read 3 10; buf = 8 ∷ 7 ∷ []; drain = false; quiet = false; link = Free }
 read = refl
 
-write : job_of (lent (write_entry 3 7 2 10)) ≡ record { op = Write 3 10; buf = 8 ∷ 7 ∷ []; drain = false; link = Free }
+write : job_of (lent (write_entry 3 7 2 10)) ≡ record { op = Write 3 10; buf = 8 ∷ 7 ∷ []; drain = false; quiet = false; link = Free }
 write = refl
 
 read_without_loan : op_of (plain (read_entry 3 7 2 10)) ≡ Refused (negsuc 21)
@@ -72,20 +72,28 @@ buffer_selection = refl
 abbrev flagged : ℕ → Taken
 flagged flags = plain (record nop_entry { flags = flags })
 
-drain : job_of (flagged 2) ≡ record { op = Nop; buf = []; drain = true; link = Free }
+drain : job_of (flagged 2) ≡ record { op = Nop; buf = []; drain = true; quiet = false; link = Free }
 drain = refl
 
-soft : job_of (flagged 4) ≡ record { op = Nop; buf = []; drain = false; link = Soft }
+soft : job_of (flagged 4) ≡ record { op = Nop; buf = []; drain = false; quiet = false; link = Soft }
 soft = refl
 
-hard : job_of (flagged 8) ≡ record { op = Nop; buf = []; drain = false; link = Hard }
+hard : job_of (flagged 8) ≡ record { op = Nop; buf = []; drain = false; quiet = false; link = Hard }
 hard = refl
 
-both_links : job_of (flagged 12) ≡ record { op = Nop; buf = []; drain = false; link = Soft }
+both_links : job_of (flagged 12) ≡ record { op = Nop; buf = []; drain = false; quiet = false; link = Soft }
 both_links = refl
 
-other_flags : job_of (flagged 17) ≡ record { op = Nop; buf = []; drain = false; link = Free }
+other_flags : job_of (flagged 17) ≡ record { op = Nop; buf = []; drain = false; quiet = false; link = Free }
 other_flags = refl
+
+-- SKIP_SUCCESS makes an entry quiet, unless it has a loan
+
+quiet : job_of (flagged 68) ≡ record { op = Nop; buf = []; drain = false; quiet = true; link = Soft }
+quiet = refl
+
+quiet_loan : job_of (lent (record (read_entry 3 7 2 10) { flags = 64 })) ≡ record { op = Read 3 10; buf = 8 ∷ 7 ∷ []; drain = false; quiet = false; link = Free }
+quiet_loan = refl
 
 -- turns
 
@@ -96,7 +104,7 @@ abbrev answers : ℕ → ℤ → Completion
 answers n r = record { user_data = n; result = r; flags = 0; big = 0 ∷ 0 ∷ []; loan = None }
 
 abbrev posts : List Taken → ℕ → List ℕ → List Completion
-posts ts room choices = (turn ts room (idle map.empty choices)).posts
+posts ts room choices = posts_of (turn ts room (idle map.empty choices)).ends
 
 all_in_order : posts (numbered 0 0 ∷ numbered 1 0 ∷ []) 9 [] ≡ answers 0 (pos 0) ∷ answers 1 (pos 0) ∷ []
 unfolding step
@@ -139,7 +147,7 @@ unfolding step
 refused_hard = refl
 
 -- what hangs on the last entry of a turn is cut in the next one
-cut_later : (turn (numbered 1 0 ∷ []) 9 (turn (refused 0 4 ∷ []) 9 (idle map.empty [])).state).posts ≡ answers 1 (negsuc 124) ∷ []
+cut_later : posts_of (turn (numbered 1 0 ∷ []) 9 (turn (refused 0 4 ∷ []) 9 (idle map.empty [])).state).ends ≡ answers 1 (negsuc 124) ∷ []
 unfolding step
 cut_later = refl
 
@@ -149,6 +157,24 @@ unfolding step
 canceled_before = refl
 
 -- a short read lays its bytes behind the loan's place, and its front stays
-short_read : (files : Files) → map.get files 3 ≡ Some (1 ∷ []) → (turn (lent (read_entry 3 7 2 0) ∷ []) 9 (idle files [])).posts ≡ record { user_data = 0; result = pos 1; flags = 0; big = 0 ∷ 0 ∷ []; loan = Some (record { number = 7; from = 1; buf = 9 ∷ 1 ∷ 7 ∷ [] }) } ∷ []
+short_read : (files : Files) → map.get files 3 ≡ Some (1 ∷ []) → posts_of (turn (lent (read_entry 3 7 2 0) ∷ []) 9 (idle files [])).ends ≡ record { user_data = 0; result = pos 1; flags = 0; big = 0 ∷ 0 ∷ []; loan = Some (record { number = 7; from = 1; buf = 9 ∷ 1 ∷ 7 ∷ [] }) } ∷ []
 unfolding step
 short_read files e = rw e refl
+
+-- a quiet entry that succeeds posts nothing; the turn goes on behind it also at an even choice, and it takes no room
+
+abbrev ends : List Taken → ℕ → List ℕ → List EntryEnd
+ends ts room choices = (turn ts room (idle map.empty choices)).ends
+
+quiet_goes_on : ends (numbered 0 68 ∷ numbered 1 0 ∷ numbered 2 0 ∷ []) 1 (0 ∷ 2 ∷ []) ≡ Quietly 0 ∷ ByPost (answers 2 (pos 0)) ∷ []
+unfolding step
+quiet_goes_on = refl
+
+-- one that fails posts, and ends its turn at an even choice
+quiet_refused : ends (refused 0 68 ∷ numbered 1 0 ∷ []) 9 (0 ∷ []) ≡ ByPost (answers 0 (negsuc 94)) ∷ []
+unfolding step
+quiet_refused = refl
+
+-- where there is no room nothing settles
+quiet_waits : ends (numbered 0 68 ∷ numbered 1 0 ∷ []) 0 [] ≡ []
+quiet_waits = refl

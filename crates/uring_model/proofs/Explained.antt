@@ -5,13 +5,13 @@ use Rattle.uring_base.specs.declared.events.Taken.{Taken}
 use Rattle.uring_model.specs.Machine.{Files}
 use Rattle.uring_model.specs.Jobs.{Job}
 use Rattle.uring_model.specs.Replay.{last_unlinked}
-use Rattle.uring_model.specs.Moves.{Move, took, posted}
+use Rattle.uring_model.specs.Moves.{Move, took}
 use Rattle.uring_model.specs.Partner.{file_machine, job_of, PartnerState, Steps, IsServed, IsIdle, idle}
 use Rattle.uring_model.specs.Explained.{Numbered, record_all, AllFresh, Explained}
 use Rattle.uring_model.proofs.Simulation.{explained}
 use Rattle.uring_model.proofs.Joins.{served_from}
 
-unlinked-length : (jobs : List Job) → length (last_unlinked jobs) ≡ length jobs
+pub unlinked-length : (jobs : List Job) → length (last_unlinked jobs) ≡ length jobs
 unlinked-length [] = refl
 unlinked-length (job ∷ []) = refl
 unlinked-length (job ∷ next ∷ jobs) = ap suc (unlinked-length (next ∷ jobs))
@@ -26,8 +26,8 @@ moves_explained jobs files choices ms ahead b asks numbered h =
       replays = t.replays;
       chosen = t.chosen;
       files_at_end = t.related.files;
-      outcomes = t.outcomes ∙ ap (λ k. record_all (replicate k None) (posted ms)) n;
-      fresh = subst (λ k. AllFresh (replicate k None) (posted ms)) n t.fresh;
+      outcomes = t.outcomes ∙ ap (λ k. record_all (replicate k None) ms) n;
+      fresh = subst (λ k. AllFresh (replicate k None) ms) n t.fresh;
     }
 
 pub calls_explained : (jobs : List Job) (files : Files) (choices : List ℕ) (ms : List Move) (ahead : List Taken) (b : PartnerState)

@@ -1,5 +1,5 @@
 -- A partner whose files are told posts only what was started, once, with its own loan.
-use Rattle.std.specs.Prelude.{◌≡◌, ℕ, ◌+◌, ◌-◌, ◌<◌, ◌≤◌, zero, suc, Bool, true, false, ◌&&◌, ◌||◌, not, cond, nat_eq, nat_lt, is_some, List, [], ◌∷◌, ◌++◌, length, map, replicate, ℤ, ◌/◌, ◌%◌, Option, Some, None, slice_get, slice_set, refl, All}
+use Rattle.std.specs.Prelude.{◌≡◌, ℕ, ◌+◌, ◌-◌, ◌<◌, ◌≤◌, zero, suc, Bool, true, false, ◌&&◌, ◌||◌, not, cond, nat_eq, nat_lt, is_some, List, [], ◌∷◌, ◌++◌, length, map, drop, ℤ, ◌/◌, ◌%◌, Option, Some, None, slice_get, refl, All}
 use Rattle.std.specs.List.{AllByRecursion, list_any}
 use Rattle.std.proofs.lemmas.List.Elements.{All-from_recursion, recursion_from_All}
 use Rattle.std.proofs.lemmas.List.{map-append}
@@ -10,20 +10,20 @@ use Rattle.uring_base.specs.declared.events.Taken.{Taken}
 use Rattle.uring_base.specs.declared.events.Completion.{Completion}
 use Rattle.uring_base.specs.declared.buffer.Loan.{Loan}
 use Rattle.uring_model.specs.declared.pending.Pending.{Pending}
-use Rattle.uring_base.specs.Loans.{part_of, with_part}
+use Rattle.uring_base.specs.Loans.{with_part}
 use Rattle.uring_base.specs.Completions.{is_final}
 use Rattle.uring_model.specs.Machine.{Files, FileAnswer}
-use Rattle.uring_model.specs.Jobs.{Job, linked}
-use Rattle.uring_model.specs.Replay.{Result, last_unlinked}
+use Rattle.uring_model.specs.Jobs.{Job, linked, quiets_are_linked, quiets_of}
+use Rattle.uring_model.specs.Replay.{last_unlinked}
 use Rattle.uring_model.specs.Chosen.{choice, stops}
-use Rattle.uring_model.specs.Moves.{Move, Turned, Took, Posted, took, posted, log_of}
-use Rattle.uring_model.specs.Partner.{job_of, PartnerState, cut_of, Cursor, completion_of, mark_first, mark_first_if, pass, answer_to, cursors, after_take, cut_after, after_settle, Steps, idle}
-use Rattle.uring_model.specs.Explained.{Numbered, record_one, AllFresh}
-use Rattle.uring_model.specs.Strange.{Seen, nothing_seen, has_other_number, has_wrong_loan, is_strange, first_strange}
+use Rattle.uring_model.specs.Moves.{Move, Turned, Took, Posted, Quieted, took, posted, quieted, log_of}
+use Rattle.uring_model.specs.Partner.{job_of, PartnerState, cut_of, Cursor, completion_of, held, mark_first, mark_first_if, pass, answer_to, is_quiet_end, cursors, after_take, cut_after, after_settle, Steps, idle}
+use Rattle.uring_model.specs.Explained.{Numbered}
+use Rattle.uring_model.specs.Strange.{Seen, nothing_seen, all_seen, has_other_number, has_wrong_loan, answered_from, is_answered, is_strange, first_strange}
 use Rattle.uring_model.specs.Honest.{TakesWithinTurns, HasOwnLoan}
 use Rattle.uring_model.proofs.Lines.{numbered_split}
-use Rattle.uring_model.proofs.Explained.{moves_explained}
-use Rattle.uring_model.proofs.Progress.{split_of}
+use Rattle.std.proofs.lemmas.Option.{same_Some}
+use Rattle.uring_model.proofs.Progress.{split_of, cursor_ready}
 use Rattle.uring_base.specs.declared.events.LogEvent.TheVariants as logs
 
 -- lists of entries of which something holds
@@ -65,52 +65,135 @@ mark_entries : (o : Option ℕ) (is : List Pending) → entries_of (mark_first_i
 mark_entries None is = refl
 mark_entries (Some t) is = first_entries t is
 
-left_entries : (a : PartnerState) (c : Cursor) (y : FileAnswer) → entries_of (after_settle a c y).pending ≡ entries_of c.front ++ entries_of c.back
+pub left_entries : (a : PartnerState) (c : Cursor) (y : FileAnswer) → entries_of (after_settle a c y).pending ≡ entries_of c.front ++ entries_of c.back
 left_entries a c y =
     let cut = cut_after c y in
     mark_entries y.marks (c.front ++ pass (linked (job_of c.item.taken).link) cut c.back)
     ∙ map-append (λ i. i.taken) c.front (pass (linked (job_of c.item.taken).link) cut c.back)
     ∙ ap (λ l. entries_of c.front ++ l) (pass_entries (linked (job_of c.item.taken).link) cut c.back)
 
-cursor_entries : (a : PartnerState) (c : Cursor) (k : ℕ) → slice_get (cursors a) k ≡ Some c → entries_of a.pending ≡ entries_of c.front ++ c.item.taken ∷ entries_of c.back
+pub cursor_entries : (a : PartnerState) (c : Cursor) (k : ℕ) → slice_get (cursors a) k ≡ Some c → entries_of a.pending ≡ entries_of c.front ++ c.item.taken ∷ entries_of c.back
 cursor_entries a c k e = ap entries_of (sym (split_of [] a.pending k c e)) ∙ map-append (λ i. i.taken) c.front (c.item ∷ c.back)
 
--- jobs that ended have an outcome
+-- what holds of the entries of one settling: it holds of the one that settles, and of those that are left
+settled_each : (P : Taken → Type 0) (a : PartnerState) (k : Cursor) (y : FileAnswer) (n : ℕ) → slice_get (cursors a) n ≡ Some k → Each P (entries_of a.pending) → P k.item.taken × Each P (entries_of (after_settle a k y).pending)
+settled_each P a k y n chosen pend =
+    let parts = each_split P (entries_of k.front) (k.item.taken ∷ entries_of k.back) (subst (Each P) (cursor_entries a k n chosen) pend) in
+    (parts.1.0, subst (Each P) (sym (left_entries a k y)) (each-append P (entries_of k.front) (entries_of k.back) parts.0 parts.1.1))
 
-abbrev IsSet : List (Option Result) → ℕ → Type 0
-IsSet outs k = (r : Result) × (slice_get outs k ≡ Some (Some r))
+taken_each : (P : Taken → Type 0) (a : PartnerState) (t : Taken) → P t → Each P (entries_of a.pending) → Each P (entries_of (after_take a t).pending)
+taken_each P a t p pend = subst (Each P) (sym (map-append (λ i. i.taken) a.pending (record { taken = t; cut = cut_of a.tail; marked = false } ∷ []))) (each-append P (entries_of a.pending) (t ∷ []) pend (p, tt))
 
-set_here : (outs : List (Option Result)) (j : ℕ) (r : Result) → slice_get outs j ≡ Some None → IsSet (slice_set outs j (Some r)) j
-set_here [] j r e = cc
-set_here (o ∷ outs) zero r e = (r, refl)
-set_here (o ∷ outs) (suc j) r e = set_here outs j r e
+-- Where each linked entry of what is pending stands in front of the next number: the first of those behind it, or the one
+-- that is taken next.
 
-still_set : (outs : List (Option Result)) (j k : ℕ) (r : Result) → IsSet outs k → IsSet (slice_set outs j (Some r)) k
-still_set [] j k r h = absurd (let e : slice_get [] k ≡ Some (Some h.0) = h.1 in cc)
-still_set (o ∷ outs) zero zero r h = (r, refl)
-still_set (o ∷ outs) zero (suc k) r h = h
-still_set (o ∷ outs) (suc j) zero r h = h
-still_set (o ∷ outs) (suc j) (suc k) r h = still_set outs j k r h
+abbrev Chained : List Taken → ℕ → Type 0
+Chained [] n = Unit {0}
+Chained (t ∷ []) n = linked (job_of t).link ≡ true → t.entry.user_data + 1 ≡ n
+Chained (t ∷ u ∷ ts) n = (linked (job_of t).link ≡ true → u.entry.user_data ≡ t.entry.user_data + 1) × Chained (u ∷ ts) n
 
-abbrev AllSet : List (Option Result) → List ℕ → Type 0
-AllSet outs [] = Unit {0}
-AllSet outs (k ∷ ks) = IsSet outs k × AllSet outs ks
+chain_tail : (t : Taken) (ts : List Taken) (n : ℕ) → Chained (t ∷ ts) n → Chained ts n
+chain_tail t [] n h = tt
+chain_tail t (u ∷ ts) n h = h.1
 
-all_still_set : (outs : List (Option Result)) (j : ℕ) (r : Result) (ks : List ℕ) → AllSet outs ks → AllSet (slice_set outs j (Some r)) ks
-all_still_set outs j r [] h = tt
-all_still_set outs j r (k ∷ ks) h = (still_set outs j k r h.0, all_still_set outs j r ks h.1)
+chain_back : (xs : List Taken) (t : Taken) (ys : List Taken) (n : ℕ) → Chained (xs ++ t ∷ ys) n → Chained (t ∷ ys) n
+chain_back [] t ys n h = h
+chain_back (x ∷ xs) t ys n h = chain_back xs t ys n (chain_tail x (xs ++ t ∷ ys) n h)
 
-other_job : (outs : List (Option Result)) (j k : ℕ) → slice_get outs j ≡ Some None → IsSet outs k → nat_eq j k ≡ false
-other_job outs j k e h =
-    let no : j ≡ k → ⊥ = λ p. let q : Some None ≡ Some (Some h.0) = sym e ∙ ap (slice_get outs) p ∙ h.1 in cc in
-    grind (arith, nat_tests)
+chain_take : (ts : List Taken) (n : ℕ) (t : Taken) → t.entry.user_data ≡ n → Chained ts n → Chained (ts ++ t ∷ []) (n + 1)
+chain_take [] n t e h = λ l. omega (arith, e)
+chain_take (x ∷ []) n t e h = ((λ l. omega (arith, e, h l)), (λ l. omega (arith, e)))
+chain_take (x ∷ y ∷ ts) n t e h = (h.0, chain_take (y ∷ ts) n t e h.1)
 
-or_no : (b c : Bool) → b ≡ false → c ≡ false → (b || c) ≡ false
-or_no b c p q = rw (p, q) refl
+-- whether the last of these is linked
+abbrev pub last_linked : Bool → List Taken → Bool
+last_linked w [] = w
+last_linked w (t ∷ ts) = last_linked (linked (job_of t).link) ts
 
-none_ended : (outs : List (Option Result)) (j : ℕ) (ks : List ℕ) → slice_get outs j ≡ Some None → AllSet outs ks → list_any (nat_eq j) ks ≡ false
-none_ended outs j [] e h = refl
-none_ended outs j (k ∷ ks) e h = or_no (nat_eq j k) (list_any (nat_eq j) ks) (other_job outs j k e h.0) (none_ended outs j ks e h.1)
+pub held_last : (w : Bool) (is : List Pending) → held w is ≡ last_linked w (entries_of is)
+held_last w [] = refl
+held_last w (i ∷ is) = held_last (linked (job_of i.taken).link) is
+
+unlinked_chain : (f : Taken) (ts : List Taken) (n : ℕ) → linked (job_of f).link ≡ false → Chained ts n → Chained (f ∷ ts) n
+unlinked_chain f [] n e h = λ l. absurd (let bad : true ≡ false = sym l ∙ e in cc)
+unlinked_chain f (u ∷ ts) n e h = ((λ l. absurd (let bad : true ≡ false = sym l ∙ e in cc)), h)
+
+-- an entry that waits for none is gone
+chain_drop : (w : Bool) (xs : List Taken) (t : Taken) (ys : List Taken) (n : ℕ) → last_linked w xs ≡ false → Chained (xs ++ t ∷ ys) n → Chained (xs ++ ys) n
+chain_drop w [] t ys n e h = chain_tail t ys n h
+chain_drop w (f ∷ []) t ys n e h = unlinked_chain f ys n e (chain_tail t ys n h.1)
+chain_drop w (f ∷ g ∷ xs) t ys n e h = (h.0, chain_drop (linked (job_of f).link) (g ∷ xs) t ys n e h.1)
+
+-- numbers that rise from k on, below n
+
+abbrev Rising : ℕ → List Taken → ℕ → Type 0
+Rising k [] n = k ≤ n
+Rising k (t ∷ ts) n = (k ≤ t.entry.user_data) × Rising (t.entry.user_data + 1) ts n
+
+rising_take : (k : ℕ) (ts : List Taken) (n : ℕ) (t : Taken) → t.entry.user_data ≡ n → Rising k ts n → Rising k (ts ++ t ∷ []) (n + 1)
+rising_take k [] n t e h = (omega (arith, e, h), omega (arith, e))
+rising_take k (x ∷ ts) n t e h = (h.0, rising_take (x.entry.user_data + 1) ts n t e h.1)
+
+rising_from : (j k : ℕ) (ts : List Taken) (n : ℕ) → j ≤ k → Rising k ts n → Rising j ts n
+rising_from j k [] n le h = omega (arith, le, h)
+rising_from j k (t ∷ ts) n le h = (omega (arith, le, h.0), h.1)
+
+rising_drop : (k : ℕ) (xs : List Taken) (t : Taken) (ys : List Taken) (n : ℕ) → Rising k (xs ++ t ∷ ys) n → Rising k (xs ++ ys) n
+rising_drop k [] t ys n h = rising_from k (t.entry.user_data + 1) ys n (omega (arith, h.0)) h.1
+rising_drop k (x ∷ xs) t ys n h = (h.0, rising_drop (x.entry.user_data + 1) xs t ys n h.1)
+
+rising_at : (k : ℕ) (xs : List Taken) (t : Taken) (ys : List Taken) (n : ℕ) → Rising k (xs ++ t ∷ ys) n → k ≤ t.entry.user_data
+rising_at k [] t ys n h = h.0
+rising_at k (x ∷ xs) t ys n h = omega (arith, h.0, rising_at (x.entry.user_data + 1) xs t ys n h.1)
+
+abbrev IsApart : ℕ → Taken → Type 0
+IsApart j t = nat_eq t.entry.user_data j ≡ false
+
+apart_above : (j k : ℕ) (ts : List Taken) (n : ℕ) → j < k → Rising k ts n → Each (IsApart j) ts
+apart_above j k [] n lt h = tt
+apart_above j k (t ∷ ts) n lt h = (let more : j < t.entry.user_data = omega (arith, lt, h.0) in grind (arith, nat_tests), apart_above j (t.entry.user_data + 1) ts n (omega (arith, lt, h.0)) h.1)
+
+apart_others : (k : ℕ) (xs : List Taken) (t : Taken) (ys : List Taken) (n : ℕ) → Rising k (xs ++ t ∷ ys) n → Each (IsApart t.entry.user_data) xs × Each (IsApart t.entry.user_data) ys
+apart_others k [] t ys n h = (tt, apart_above t.entry.user_data (t.entry.user_data + 1) ys n (omega arith) h.1)
+apart_others k (x ∷ xs) t ys n h =
+    let rest = apart_others (x.entry.user_data + 1) xs t ys n h.1 in
+    let lt = rising_at (x.entry.user_data + 1) xs t ys n h.1 in
+    ((grind (arith, nat_tests), rest.0), rest.1)
+
+-- A job that is pending isn't answered: it hasn't ended, and where it is quiet, what hangs on it hasn't either.
+
+-- what the jobs say of an entry
+pub record Known (quiets : List Bool) (t : Taken) : Type 0 where
+  pub marked : slice_get quiets t.entry.user_data ≡ Some (job_of t).quiet
+  pub link : (job_of t).quiet ≡ true → linked (job_of t).link ≡ true
+
+abbrev HasNotEnded : List ℕ → Taken → Type 0
+HasNotEnded ended t = list_any (nat_eq t.entry.user_data) ended ≡ false
+
+abbrev NoneFrom : ℕ → List ℕ → Type 0
+NoneFrom n ended = (k : ℕ) → n ≤ k → list_any (nat_eq k) ended ≡ false
+
+unanswered_if : (q : Bool) (n : ℕ) (quiets : List Bool) (ended : List ℕ) → list_any (nat_eq n) ended ≡ false → (q ≡ true → answered_from quiets (n + 1) ended ≡ false) → answered_from (q ∷ quiets) n ended ≡ false
+unanswered_if true n quiets ended e f = rw (e, f refl) refl
+unanswered_if false n quiets ended e f = rw e refl
+
+pub unanswered_from : (quiets : List Bool) (n : ℕ) (ended : List ℕ) → NoneFrom n ended → answered_from quiets n ended ≡ false
+unanswered_from [] n ended none = none n (omega arith)
+unanswered_from (q ∷ quiets) n ended none = unanswered_if q n quiets ended (none n (omega arith)) (λ _. unanswered_from quiets (n + 1) ended (λ k le. none k (omega (arith, le))))
+
+drop_at : {A : Type 0} (xs : List A) (k : ℕ) (x : A) → slice_get xs k ≡ Some x → drop k xs ≡ x ∷ drop (k + 1) xs
+drop_at [] k x e = absurd (cc)
+drop_at (y ∷ xs) zero x e = ap (λ z. z ∷ xs) (same_Some y x e)
+drop_at (y ∷ xs) (suc k) x e = let one : suc (k + 1) ≡ suc k + 1 = omega arith in drop_at xs k x e ∙ ap (λ n. x ∷ drop n (y ∷ xs)) one
+
+pub unanswered : (quiets : List Bool) (ended : List ℕ) (t : Taken) (ts : List Taken) (n : ℕ) → Chained (t ∷ ts) n → Each (Known quiets) (t ∷ ts) → Each (HasNotEnded ended) (t ∷ ts) → NoneFrom n ended → is_answered quiets ended t.entry.user_data ≡ false
+unanswered quiets ended t [] n chain known left none =
+    ap (λ qs. answered_from qs t.entry.user_data ended) (drop_at quiets t.entry.user_data (job_of t).quiet known.0.marked)
+    ∙ unanswered_if (job_of t).quiet t.entry.user_data (drop (t.entry.user_data + 1) quiets) ended left.0 (λ q. unanswered_from (drop (t.entry.user_data + 1) quiets) (t.entry.user_data + 1) ended (λ k le. none k (omega (arith, le, chain (known.0.link q)))))
+unanswered quiets ended t (u ∷ ts) n chain known left none =
+    ap (λ qs. answered_from qs t.entry.user_data ended) (drop_at quiets t.entry.user_data (job_of t).quiet known.0.marked)
+    ∙ unanswered_if (job_of t).quiet t.entry.user_data (drop (t.entry.user_data + 1) quiets) ended left.0
+    (λ q. ap (λ k. answered_from (drop k quiets) k ended) (sym (chain.0 (known.0.link q))) ∙ unanswered quiets ended u ts n chain.1 known.1 left.1 none)
 
 -- a post is not strange
 
@@ -122,61 +205,207 @@ right_loan : (b : Bool) (l : Option Loan) (bytes : List ℕ) → b ≡ is_some l
 right_loan b None bytes e = ap (λ x. has_wrong_loan x true None) e
 right_loan b (Some l) bytes e = ap (λ x. has_wrong_loan x true (with_part (Some l) bytes)) e
 
-post_fine : (lends : ℕ → Bool) (seen : Seen) (t : Taken) (y : FileAnswer) → HasOwnLoan lends t → t.entry.user_data < seen.started → list_any (nat_eq t.entry.user_data) seen.ended ≡ false
-    → is_strange lends seen t.entry.user_data true (with_part t.loan y.buf) ≡ false
-post_fine lends seen t y own started ended =
+post_fine : (lends : ℕ → Bool) (quiets : List Bool) (seen : Seen) (t : Taken) (y : FileAnswer) → HasOwnLoan lends t → t.entry.user_data < seen.started → is_answered quiets seen.ended t.entry.user_data ≡ false
+    → is_strange lends quiets seen t.entry.user_data true (with_part t.loan y.buf) ≡ false
+post_fine lends quiets seen t y own started left =
     let late : not (nat_lt t.entry.user_data seen.started) ≡ false = grind (arith, nat_tests) in
-    rw (late, ended, with_number t.entry.user_data t.loan y.buf own.number, right_loan (lends t.entry.user_data) t.loan y.buf own.lent) refl
+    rw (late, left, with_number t.entry.user_data t.loan y.buf own.number, right_loan (lends t.entry.user_data) t.loan y.buf own.lent) refl
 
--- an entry that pends has its own loan, and is among the first n
-pub record Pends (lends : ℕ → Bool) (n : ℕ) (t : Taken) : Type 0 where
-  pub own : HasOwnLoan lends t
-  pub number : t.entry.user_data < n
+passes : (lends : ℕ → Bool) (quiets : List Bool) (seen : Seen) (job : ℕ) (r : ℤ) (fin : Bool) (loan : Option Loan) (log : List LogEvent) → is_strange lends quiets seen job fin loan ≡ false → fin ≡ true
+    → first_strange lends quiets seen (logs.Post job r fin loan ∷ log) ≡ first_strange lends quiets (record seen { ended = job ∷ seen.ended }) log
+passes lends quiets seen job r fin loan log e f = rw (e, f) refl
 
-passes : (lends : ℕ → Bool) (seen : Seen) (job : ℕ) (r : ℤ) (fin : Bool) (loan : Option Loan) (log : List LogEvent) → is_strange lends seen job fin loan ≡ false → fin ≡ true
-    → first_strange lends seen (logs.Post job r fin loan ∷ log) ≡ first_strange lends (record seen { ended = job ∷ seen.ended }) log
-passes lends seen job r fin loan log e f = rw (e, f) refl
+-- what is pending, where so many were taken and these have ended
+pub record Stands (quiets : List Bool) (n : ℕ) (ended : List ℕ) (ts : List Taken) : Type 0 where
+  pub known : Each (Known quiets) ts
+  pub left : Each (HasNotEnded ended) ts
+  pub chain : Chained ts n
+  pub rises : Rising 0 ts n
+  pub none : NoneFrom n ended
 
-pub none_strange : (lends : ℕ → Bool) (over : Bool) (a b : PartnerState) (ms : List Move) (seen : Seen) (left : ℕ) (outs : List (Option Result))
-    → Steps over a ms b → Numbered seen.taken (took ms) → Each (HasOwnLoan lends) (took ms) → Each (Pends lends seen.taken) (entries_of a.pending)
-    → TakesWithinTurns left ms → seen.taken + left ≤ seen.started → AllFresh outs (posted ms) → AllSet outs seen.ended
-    → first_strange lends seen (log_of ms) ≡ None
-none_strange lends over a b [] seen left outs h n own pend within room fresh ended = refl
-none_strange lends over a b (Turned p ∷ ms) seen left outs h n own pend within room fresh ended =
-    none_strange lends false a b ms (record seen { started = seen.taken + p }) p outs h n own pend within (omega arith) fresh ended
-none_strange lends over a b (Took t ∷ ms) seen left outs h n own pend within room fresh ended =
-    let more : Each (Pends lends (seen.taken + 1)) (entries_of a.pending) = each_map (Pends lends seen.taken) (Pends lends (seen.taken + 1)) (λ u p. record { own = p.own; number = omega (arith, p.number) }) (entries_of a.pending) pend in
-    let one : Pends lends (seen.taken + 1) t = record { own = own.0; number = omega (arith, n.0) } in
-    let both : Each (Pends lends (seen.taken + 1)) (entries_of (after_take a t).pending) =
-    subst (Each (Pends lends (seen.taken + 1))) (sym (map-append (λ i. i.taken) a.pending (record { taken = t; cut = cut_of a.tail; marked = false } ∷ []))) (each-append (Pends lends (seen.taken + 1)) (entries_of a.pending) (t ∷ []) more (one, tt)) in
-    none_strange lends false (after_take a t) b ms (record seen { taken = seen.taken + 1 }) (left - 1) outs h.1 n.1 own.1 both within.1 (omega (arith, within.0)) fresh ended
-none_strange lends over a b (Posted c ∷ ms) seen left outs h n own pend within room fresh ended =
-    let s = h.1 in
+-- one more is taken
+stands_more : (quiets : List Bool) (n : ℕ) (ended : List ℕ) (ts : List Taken) (t : Taken) → t.entry.user_data ≡ n → Known quiets t → Stands quiets n ended ts → Stands quiets (n + 1) ended (ts ++ t ∷ [])
+stands_more quiets n ended ts t e k h = record {
+  known = each-append (Known quiets) ts (t ∷ []) h.known (k, tt);
+  left = each-append (HasNotEnded ended) ts (t ∷ []) h.left (h.none t.entry.user_data (omega (arith, e)), tt);
+  chain = chain_take ts n t e h.chain;
+  rises = rising_take 0 ts n t e h.rises;
+  none = λ k le. h.none k (omega (arith, le));
+}
+
+-- one settles quietly
+stands_less : (quiets : List Bool) (n : ℕ) (ended : List ℕ) (xs : List Taken) (t : Taken) (ys : List Taken) → last_linked false xs ≡ false → Stands quiets n ended (xs ++ t ∷ ys) → Stands quiets n ended (xs ++ ys)
+stands_less quiets n ended xs t ys free h =
+    let k = each_split (Known quiets) xs (t ∷ ys) h.known in
+    let l = each_split (HasNotEnded ended) xs (t ∷ ys) h.left in
+    record {
+      known = each-append (Known quiets) xs ys k.0 k.1.1;
+      left = each-append (HasNotEnded ended) xs ys l.0 l.1.1;
+      chain = chain_drop false xs t ys n free h.chain;
+      rises = rising_drop 0 xs t ys n h.rises;
+      none = h.none;
+    }
+
+still_left : (j : ℕ) (ended : List ℕ) (ts : List Taken) → Each (IsApart j) ts → Each (HasNotEnded ended) ts → Each (HasNotEnded (j ∷ ended)) ts
+still_left j ended [] a h = tt
+still_left j ended (t ∷ ts) a h = (or_none (nat_eq t.entry.user_data j) (list_any (nat_eq t.entry.user_data) ended) a.0 h.0, still_left j ended ts a.1 h.1)
+  where
+    or_none : (b c : Bool) → b ≡ false → c ≡ false → (b || c) ≡ false
+    or_none b c p q = rw (p, q) refl
+
+-- one ends with its post
+stands_ended : (quiets : List Bool) (n : ℕ) (ended : List ℕ) (xs : List Taken) (t : Taken) (ys : List Taken) → last_linked false xs ≡ false → t.entry.user_data < n → Stands quiets n ended (xs ++ t ∷ ys) → Stands quiets n (t.entry.user_data ∷ ended) (xs ++ ys)
+stands_ended quiets n ended xs t ys free lt h =
+    let less = stands_less quiets n ended xs t ys free h in
+    let others = apart_others 0 xs t ys n h.rises in
+    record {
+      known = less.known;
+      left = still_left t.entry.user_data ended (xs ++ ys) (each-append (IsApart t.entry.user_data) xs ys others.0 others.1) less.left;
+      chain = less.chain;
+      rises = less.rises;
+      none = λ k le. let other : nat_eq k t.entry.user_data ≡ false = grind (arith, nat_tests) in rw (other, h.none k le) refl;
+    }
+
+pub rising_below : (k : ℕ) (xs : List Taken) (t : Taken) (ys : List Taken) (n : ℕ) → Rising k (xs ++ t ∷ ys) n → t.entry.user_data < n
+rising_below k [] t ys n h = omega (arith, reaches (t.entry.user_data + 1) ys n h.1)
+  where
+    reaches : (k : ℕ) (ts : List Taken) (n : ℕ) → Rising k ts n → k ≤ n
+    reaches k [] n h = h
+    reaches k (t ∷ ts) n h = omega (arith, h.0, reaches (t.entry.user_data + 1) ts n h.1)
+rising_below k (x ∷ xs) t ys n h = rising_below (x.entry.user_data + 1) xs t ys n h.1
+
+-- an entry that settles waits for none
+pub free_front : (a : PartnerState) (c : Cursor) (k : ℕ) → slice_get (cursors a) k ≡ Some c → last_linked false (entries_of c.front) ≡ false
+free_front a c k e = sym (held_last false c.front) ∙ unheld (held false c.front) _ _ (cursor_ready (λ t. true) [] a.pending k c e)
+  where
+    unheld : (h d e : Bool) → (not h && d && e) ≡ true → h ≡ false
+    unheld true d e q = cc
+    unheld false d e q = refl
+
+none_strange : (lends : ℕ → Bool) (quiets : List Bool) (over : Bool) (a b : PartnerState) (ms : List Move) (seen : Seen) (left : ℕ)
+    → Steps over a ms b → Numbered seen.taken (took ms) → Each (Known quiets) (took ms) → Each (HasOwnLoan lends) (took ms) → Each (HasOwnLoan lends) (entries_of a.pending) → Stands quiets seen.taken seen.ended (entries_of a.pending)
+    → TakesWithinTurns left ms → seen.taken + left ≤ seen.started
+    → first_strange lends quiets seen (log_of ms) ≡ None
+none_strange lends quiets over a b [] seen left h n known own pend stands within room = refl
+none_strange lends quiets over a b (Turned p ∷ ms) seen left h n known own pend stands within room =
+    none_strange lends quiets false a b ms (record seen { started = seen.taken + p }) p h n known own pend stands within (omega arith)
+none_strange lends quiets over a b (Took t ∷ ms) seen left h n known own pend stands within room =
+    let more = stands_more quiets seen.taken seen.ended (entries_of a.pending) t n.0 known.0 stands in
+    let pends : Stands quiets (seen.taken + 1) seen.ended (entries_of (after_take a t).pending) = subst (Stands quiets (seen.taken + 1) seen.ended) (sym (map-append (λ i. i.taken) a.pending (record { taken = t; cut = cut_of a.tail; marked = false } ∷ []))) more in
+    none_strange lends quiets false (after_take a t) b ms (record seen { taken = seen.taken + 1 }) (left - 1) h.1 n.1 known.1 own.1 (taken_each (HasOwnLoan lends) a t own.0 pend) pends within.1 (omega (arith, within.0, room))
+none_strange lends quiets over a b (Posted c ∷ ms) seen left h n known own pend stands within room =
+    let k = h.1.cursor in
+    let at = (choice a.choices / 2) % length (cursors a) in
     let y = answer_to a.world h.1.cursor in
-    let t = h.1.cursor.item.taken in
-    let parts = each_split (Pends lends seen.taken) (entries_of h.1.cursor.front) (h.1.cursor.item.taken ∷ entries_of h.1.cursor.back)
-    (subst (Each (Pends lends seen.taken)) (cursor_entries a h.1.cursor ((choice a.choices / 2) % length (cursors a)) h.1.chosen) pend) in
-    let here : Pends lends seen.taken h.1.cursor.item.taken = parts.1.0 in
-    let number : c.user_data ≡ h.1.cursor.item.taken.entry.user_data = ap (λ x. x.user_data) h.1.completion in
+    let whole : Stands quiets seen.taken seen.ended (entries_of k.front ++ k.item.taken ∷ entries_of k.back) = subst (Stands quiets seen.taken seen.ended) (cursor_entries a k at h.1.chosen) stands in
+    let loans = settled_each (HasOwnLoan lends) a k y at h.1.chosen pend in
+    let free = free_front a k at h.1.chosen in
+    let below = rising_below 0 (entries_of k.front) k.item.taken (entries_of k.back) seen.taken whole.rises in
+    let here = (each_split (Known quiets) (entries_of k.front) (k.item.taken ∷ entries_of k.back) whole.known).1 in
+    let unended = (each_split (HasNotEnded seen.ended) (entries_of k.front) (k.item.taken ∷ entries_of k.back) whole.left).1 in
+    let waits = unanswered quiets seen.ended k.item.taken (entries_of k.back) seen.taken (chain_back (entries_of k.front) k.item.taken (entries_of k.back) seen.taken whole.chain) here unended whole.none in
+    let number : c.user_data ≡ k.item.taken.entry.user_data = ap (λ x. x.user_data) h.1.completion in
     let final : is_final c.flags ≡ true = ap (λ x. is_final x.flags) h.1.completion in
-    let unended : list_any (nat_eq h.1.cursor.item.taken.entry.user_data) seen.ended ≡ false = ap (λ j. list_any (nat_eq j) seen.ended) (sym number) ∙ none_ended outs c.user_data seen.ended fresh.0 ended in
-    let fine : is_strange lends seen c.user_data (is_final c.flags) c.loan ≡ false =
-    ap (λ x. is_strange lends seen x.user_data (is_final x.flags) x.loan) h.1.completion
-    ∙ post_fine lends seen h.1.cursor.item.taken (answer_to a.world h.1.cursor) here.own (omega (arith, here.number)) unended in
-    let rest : Each (Pends lends seen.taken) (entries_of (after_settle a h.1.cursor (answer_to a.world h.1.cursor)).pending) =
-    subst (Each (Pends lends seen.taken)) (sym (left_entries a h.1.cursor (answer_to a.world h.1.cursor))) (each-append (Pends lends seen.taken) (entries_of h.1.cursor.front) (entries_of h.1.cursor.back) parts.0 parts.1.1) in
-    let r : Result = record { result = c.result; buf = part_of c.loan } in
-    let set : AllSet (record_one outs c) (c.user_data ∷ seen.ended) = (set_here outs c.user_data (record { result = c.result; buf = part_of c.loan }) fresh.0, all_still_set outs c.user_data (record { result = c.result; buf = part_of c.loan }) seen.ended ended) in
-    passes lends seen c.user_data c.result (is_final c.flags) c.loan (log_of ms) fine final
-    ∙ none_strange lends (stops (choice a.choices)) (after_settle a h.1.cursor (answer_to a.world h.1.cursor)) b ms (record seen { ended = c.user_data ∷ seen.ended }) left (record_one outs c) h.2 n own rest within room fresh.1 set
+    let fine : is_strange lends quiets seen c.user_data (is_final c.flags) c.loan ≡ false =
+    ap (λ x. is_strange lends quiets seen x.user_data (is_final x.flags) x.loan) h.1.completion
+    ∙ post_fine lends quiets seen k.item.taken y loans.0 (omega (arith, below, room)) waits in
+    let rest : Stands quiets seen.taken (c.user_data ∷ seen.ended) (entries_of (after_settle a k y).pending) =
+    subst (Stands quiets seen.taken (c.user_data ∷ seen.ended)) (sym (left_entries a k y))
+    (subst (λ j. Stands quiets seen.taken (j ∷ seen.ended) (entries_of k.front ++ entries_of k.back)) (sym number) (stands_ended quiets seen.taken seen.ended (entries_of k.front) k.item.taken (entries_of k.back) free below whole)) in
+    passes lends quiets seen c.user_data c.result (is_final c.flags) c.loan (log_of ms) fine final
+    ∙ none_strange lends quiets (stops (choice a.choices)) (after_settle a k y) b ms (record seen { ended = c.user_data ∷ seen.ended }) left h.2 n known own loans.1 rest within room
+none_strange lends quiets over a b (Quieted j ∷ ms) seen left h n known own pend stands within room =
+    let k = h.1.cursor in
+    let at = (choice a.choices / 2) % length (cursors a) in
+    let y = answer_to a.world h.1.cursor in
+    let whole : Stands quiets seen.taken seen.ended (entries_of k.front ++ k.item.taken ∷ entries_of k.back) = subst (Stands quiets seen.taken seen.ended) (cursor_entries a k at h.1.chosen) stands in
+    let rest : Stands quiets seen.taken seen.ended (entries_of (after_settle a k y).pending) =
+    subst (Stands quiets seen.taken seen.ended) (sym (left_entries a k y)) (stands_less quiets seen.taken seen.ended (entries_of k.front) k.item.taken (entries_of k.back) (free_front a k at h.1.chosen) whole) in
+    none_strange lends quiets false (after_settle a k y) b ms seen left h.2 n known own (settled_each (HasOwnLoan lends) a k y at h.1.chosen pend).1 rest within room
+
+-- what the jobs say of their entries
+
+pub quiets_unlinked : (jobs : List Job) → quiets_of (last_unlinked jobs) ≡ quiets_of jobs
+quiets_unlinked [] = refl
+quiets_unlinked (job ∷ []) = refl
+quiets_unlinked (job ∷ next ∷ jobs) = ap (λ l. job.quiet ∷ l) (quiets_unlinked (next ∷ jobs))
+
+abbrev IsLinkedIfQuiet : Job → Type 0
+IsLinkedIfQuiet job = job.quiet ≡ true → linked job.link ≡ true
+
+linked_if : (q l rest : Bool) → ((not q || l) && rest) ≡ true → (q ≡ true → l ≡ true) × (rest ≡ true)
+linked_if true true rest e = ((λ _. refl), e)
+linked_if true false rest e = cc
+linked_if false l rest e = ((λ q. cc), e)
+
+never_quiet : (q : Bool) → not q ≡ true → q ≡ false
+never_quiet true e = cc
+never_quiet false e = refl
+
+each_linked : (jobs : List Job) → quiets_are_linked jobs ≡ true → AllByRecursion IsLinkedIfQuiet (last_unlinked jobs)
+each_linked [] h = tt
+each_linked (job ∷ []) h = ((λ q. absurd (let bad : true ≡ false = sym q ∙ never_quiet job.quiet h in cc)), tt)
+each_linked (job ∷ next ∷ jobs) h = let p = linked_if job.quiet (linked job.link) (quiets_are_linked (next ∷ jobs)) h in (p.0, each_linked (next ∷ jobs) p.1)
+
+each_known : (quiets : List Bool) (n : ℕ) (ts ahead : List Taken) → ((i : ℕ) → slice_get quiets (n + i) ≡ slice_get (quiets_of (map job_of (ts ++ ahead))) i) → AllByRecursion IsLinkedIfQuiet (map job_of (ts ++ ahead)) → Numbered n (ts ++ ahead) → Each (Known quiets) ts
+each_known quiets n [] ahead f l h = tt
+each_known quiets n (t ∷ ts) ahead f l h =
+    let here : n + 0 ≡ t.entry.user_data = omega (arith, h.0) in (
+      record { marked = ap (slice_get quiets) (sym here) ∙ f 0; link = l.0 },
+      each_known quiets (n + 1) ts ahead (λ i. let e : n + 1 + i ≡ n + suc i = omega arith in ap (slice_get quiets) e ∙ f (suc i)) l.1 h.1,
+    )
+
+-- the entries of jobs of which each quiet one is linked
+pub jobs_known : (jobs : List Job) (ts ahead : List Taken) → quiets_are_linked jobs ≡ true → map job_of (ts ++ ahead) ≡ last_unlinked jobs → Numbered 0 (ts ++ ahead) → Each (Known (quiets_of jobs)) ts
+jobs_known jobs ts ahead linked_ones asks numbered =
+    let names : quiets_of jobs ≡ quiets_of (map job_of (ts ++ ahead)) = sym (quiets_unlinked jobs) ∙ ap quiets_of (sym asks) in
+    each_known (quiets_of jobs) 0 ts ahead (λ i. let e : 0 + i ≡ i = omega arith in (λ k. slice_get (names k) (e k))) (subst (AllByRecursion IsLinkedIfQuiet) (sym asks) (each_linked jobs linked_ones)) numbered
+
+pub stands_first : (quiets : List Bool) → Stands quiets 0 [] []
+stands_first quiets = record { known = tt; left = tt; chain = tt; rises = omega arith; none = λ k le. refl }
 
 pub no_post_is_strange : (lends : ℕ → Bool) (jobs : List Job) (files : Files) (choices : List ℕ) (ms : List Move) (ahead : List Taken) (b : PartnerState)
-    → map job_of (took ms ++ ahead) ≡ last_unlinked jobs → Numbered 0 (took ms ++ ahead) → Steps false (idle files choices) ms b
+    → quiets_are_linked jobs ≡ true → map job_of (took ms ++ ahead) ≡ last_unlinked jobs → Numbered 0 (took ms ++ ahead) → Steps false (idle files choices) ms b
     → All (HasOwnLoan lends) (took ms) → TakesWithinTurns 0 ms
-    → first_strange lends nothing_seen (log_of ms) ≡ None
-no_post_is_strange lends jobs files choices ms ahead b asks numbered h own within =
-    let e = moves_explained jobs files choices ms ahead b asks numbered h in
-    none_strange lends false (idle files choices) b ms nothing_seen 0 (replicate (length jobs) None) h (numbered_split 0 (took ms) ahead numbered).0 (recursion_from_All (HasOwnLoan lends) (took ms) own) tt within (omega arith) e.fresh tt
+    → first_strange lends (quiets_of jobs) nothing_seen (log_of ms) ≡ None
+no_post_is_strange lends jobs files choices ms ahead b linked_ones asks numbered h own within =
+    none_strange lends (quiets_of jobs) false (idle files choices) b ms nothing_seen 0 h (numbered_split 0 (took ms) ahead numbered).0
+    (jobs_known jobs (took ms) ahead linked_ones asks numbered) (recursion_from_All (HasOwnLoan lends) (took ms) own) tt (stands_first (quiets_of jobs)) within (omega arith)
+
+-- what stands at the end of some moves
+pub stands_after : (quiets : List Bool) (over : Bool) (a b : PartnerState) (ms : List Move) (seen : Seen) → Steps over a ms b → Numbered seen.taken (took ms) → Each (Known quiets) (took ms) → Stands quiets seen.taken seen.ended (entries_of a.pending)
+    → Stands quiets (seen.taken + length (took ms)) (all_seen seen (log_of ms)).ended (entries_of b.pending)
+stands_after quiets over a b [] seen h n known stands =
+    let e : seen.taken ≡ seen.taken + 0 = omega arith in
+    subst (λ k. Stands quiets k seen.ended (entries_of b.pending)) e (subst (λ x. Stands quiets seen.taken seen.ended (entries_of x.pending)) (sym h) stands)
+stands_after quiets over a b (Turned p ∷ ms) seen h n known stands = stands_after quiets false a b ms (record seen { started = seen.taken + p }) h n known stands
+stands_after quiets over a b (Took t ∷ ms) seen h n known stands =
+    let more = stands_more quiets seen.taken seen.ended (entries_of a.pending) t n.0 known.0 stands in
+    let pends : Stands quiets (seen.taken + 1) seen.ended (entries_of (after_take a t).pending) = subst (Stands quiets (seen.taken + 1) seen.ended) (sym (map-append (λ i. i.taken) a.pending (record { taken = t; cut = cut_of a.tail; marked = false } ∷ []))) more in
+    let e : seen.taken + 1 + length (took ms) ≡ seen.taken + suc (length (took ms)) = omega arith in
+    subst (λ k. Stands quiets k (all_seen (record seen { taken = seen.taken + 1 }) (log_of ms)).ended (entries_of b.pending)) e
+    (stands_after quiets false (after_take a t) b ms (record seen { taken = seen.taken + 1 }) h.1 n.1 known.1 pends)
+stands_after quiets over a b (Posted c ∷ ms) seen h n known stands =
+    let k = h.1.cursor in
+    let at = (choice a.choices / 2) % length (cursors a) in
+    let y = answer_to a.world h.1.cursor in
+    let whole : Stands quiets seen.taken seen.ended (entries_of k.front ++ k.item.taken ∷ entries_of k.back) = subst (Stands quiets seen.taken seen.ended) (cursor_entries a k at h.1.chosen) stands in
+    let below = rising_below 0 (entries_of k.front) k.item.taken (entries_of k.back) seen.taken whole.rises in
+    let number : c.user_data ≡ k.item.taken.entry.user_data = ap (λ x. x.user_data) h.1.completion in
+    let final : is_final c.flags ≡ true = ap (λ x. is_final x.flags) h.1.completion in
+    let rest : Stands quiets seen.taken (c.user_data ∷ seen.ended) (entries_of (after_settle a k y).pending) =
+    subst (Stands quiets seen.taken (c.user_data ∷ seen.ended)) (sym (left_entries a k y))
+    (subst (λ j. Stands quiets seen.taken (j ∷ seen.ended) (entries_of k.front ++ entries_of k.back)) (sym number) (stands_ended quiets seen.taken seen.ended (entries_of k.front) k.item.taken (entries_of k.back) (free_front a k at h.1.chosen) below whole)) in
+    subst (λ b'. Stands quiets (seen.taken + length (took ms)) (all_seen (record seen { ended = cond b' (c.user_data ∷ seen.ended) seen.ended }) (log_of ms)).ended (entries_of b.pending)) (sym final)
+    (stands_after quiets (stops (choice a.choices)) (after_settle a k y) b ms (record seen { ended = c.user_data ∷ seen.ended }) h.2 n known rest)
+stands_after quiets over a b (Quieted j ∷ ms) seen h n known stands =
+    let k = h.1.cursor in
+    let at = (choice a.choices / 2) % length (cursors a) in
+    let y = answer_to a.world h.1.cursor in
+    let whole : Stands quiets seen.taken seen.ended (entries_of k.front ++ k.item.taken ∷ entries_of k.back) = subst (Stands quiets seen.taken seen.ended) (cursor_entries a k at h.1.chosen) stands in
+    let rest : Stands quiets seen.taken seen.ended (entries_of (after_settle a k y).pending) =
+    subst (Stands quiets seen.taken seen.ended) (sym (left_entries a k y)) (stands_less quiets seen.taken seen.ended (entries_of k.front) k.item.taken (entries_of k.back) (free_front a k at h.1.chosen) whole) in
+    stands_after quiets false (after_settle a k y) b ms seen h.2 n known rest
 
 -- turns in a row
 
@@ -185,34 +414,63 @@ within_more left more [] h k = tt
 within_more left more (Turned p ∷ ms) h k = k
 within_more left more (Took t ∷ ms) h k = (omega (arith, k.0), within_more (left - 1) (more - 1) ms (omega arith) k.1)
 within_more left more (Posted c ∷ ms) h k = within_more left more ms h k
+within_more left more (Quieted n ∷ ms) h k = within_more left more ms h k
 
 pub within-append : (left : ℕ) (ms ns : List Move) → TakesWithinTurns left ms → TakesWithinTurns 0 ns → TakesWithinTurns left (ms ++ ns)
 within-append left [] ns h k = within_more 0 left ns (omega arith) k
 within-append left (Turned p ∷ ms) ns h k = within-append p ms ns h k
 within-append left (Took t ∷ ms) ns h k = (h.0, within-append (left - 1) ms ns h.1 k)
 within-append left (Posted c ∷ ms) ns h k = within-append left ms ns h k
+within-append left (Quieted n ∷ ms) ns h k = within-append left ms ns h k
 
 -- what holds of each answer to an entry of which something holds, holds of each post
-answers_all : (asks : Taken → Bool) (answers : Completion → Bool) → ((now : Files) (c : Cursor) → asks c.item.taken ≡ true → answers (completion_of c.item.taken (answer_to now c)) ≡ true) → (over : Bool) (a b : PartnerState) (ms : List Move)
+answers_all : (asks : Taken → Bool) (answers : Completion → Bool) → ((now : Files) (c : Cursor) → asks c.item.taken ≡ true → is_quiet_end now c ≡ false → answers (completion_of c.item.taken (answer_to now c)) ≡ true) → (over : Bool) (a b : PartnerState) (ms : List Move)
     → Steps over a ms b → Each (λ t. asks t ≡ true) (entries_of a.pending) → Each (λ t. asks t ≡ true) (took ms) → AllByRecursion (λ c. answers c ≡ true) (posted ms)
 answers_all asks answers f over a b [] h pend own = tt
 answers_all asks answers f over a b (Turned p ∷ ms) h pend own = answers_all asks answers f false a b ms h pend own
-answers_all asks answers f over a b (Took t ∷ ms) h pend own =
-    let more : Each (λ t. asks t ≡ true) (entries_of (after_take a t).pending) =
-    subst (Each (λ t. asks t ≡ true)) (sym (map-append (λ i. i.taken) a.pending (record { taken = t; cut = cut_of a.tail; marked = false } ∷ []))) (each-append (λ t. asks t ≡ true) (entries_of a.pending) (t ∷ []) pend (own.0, tt)) in
-    answers_all asks answers f false (after_take a t) b ms h.1 more own.1
+answers_all asks answers f over a b (Took t ∷ ms) h pend own = answers_all asks answers f false (after_take a t) b ms h.1 (taken_each (λ t. asks t ≡ true) a t own.0 pend) own.1
 answers_all asks answers f over a b (Posted c ∷ ms) h pend own =
     let k = h.1.cursor in
-    let y = answer_to a.world k in
-    let here = subst (Each (λ t. asks t ≡ true)) (cursor_entries a k ((choice a.choices / 2) % length (cursors a)) h.1.chosen) pend in
-    let parts = each_split (λ t. asks t ≡ true) (entries_of k.front) (k.item.taken ∷ entries_of k.back) here in
-    let left = subst (Each (λ t. asks t ≡ true)) (sym (left_entries a k y)) (each-append (λ t. asks t ≡ true) (entries_of k.front) (entries_of k.back) parts.0 parts.1.1) in
-    (ap answers h.1.completion ∙ f a.world k parts.1.0, answers_all asks answers f (stops (choice a.choices)) (after_settle a k y) b ms h.2 left own)
+    let p = settled_each (λ t. asks t ≡ true) a k (answer_to a.world k) ((choice a.choices / 2) % length (cursors a)) h.1.chosen pend in
+    (ap answers h.1.completion ∙ f a.world k p.0 h.1.posts, answers_all asks answers f (stops (choice a.choices)) (after_settle a k (answer_to a.world k)) b ms h.2 p.1 own)
+answers_all asks answers f over a b (Quieted n ∷ ms) h pend own =
+    let k = h.1.cursor in
+    let p = settled_each (λ t. asks t ≡ true) a k (answer_to a.world k) ((choice a.choices / 2) % length (cursors a)) h.1.chosen pend in
+    answers_all asks answers f false (after_settle a k (answer_to a.world k)) b ms h.2 p.1 own
 
 pub posts_answer : (asks : Taken → Bool) (answers : Completion → Bool) (files : Files) (choices : List ℕ) (ms : List Move) (b : PartnerState)
-    → ((now : Files) (c : Cursor) → asks c.item.taken ≡ true → answers (completion_of c.item.taken (answer_to now c)) ≡ true)
+    → ((now : Files) (c : Cursor) → asks c.item.taken ≡ true → is_quiet_end now c ≡ false → answers (completion_of c.item.taken (answer_to now c)) ≡ true)
     → Steps false (idle files choices) ms b
     → All (λ t. asks t ≡ true) (took ms) → All (λ c. answers c ≡ true) (posted ms)
 posts_answer asks answers files choices ms b f h own =
     All-from_recursion (λ c. answers c ≡ true) (posted ms)
     (answers_all asks answers f false (idle files choices) b ms h tt (recursion_from_All (λ t. asks t ≡ true) (took ms) own))
+
+-- and what holds of the numbers of the quiet entries holds of each quiet end
+
+abbrev EndsIfQuiet : (ℕ → Bool) → Taken → Type 0
+EndsIfQuiet ends t = (job_of t).quiet ≡ true → ends t.entry.user_data ≡ true
+
+quiet_entry : (b c : Bool) → (b && c) ≡ true → b ≡ true
+quiet_entry true c e = refl
+quiet_entry false c e = e
+
+pub quiets_all : (ends : ℕ → Bool) (over : Bool) (a b : PartnerState) (ms : List Move) → Steps over a ms b → Each (EndsIfQuiet ends) (entries_of a.pending) → Each (EndsIfQuiet ends) (took ms) → AllByRecursion (λ n. ends n ≡ true) (quieted ms)
+quiets_all ends over a b [] h pend own = tt
+quiets_all ends over a b (Turned p ∷ ms) h pend own = quiets_all ends false a b ms h pend own
+quiets_all ends over a b (Took t ∷ ms) h pend own = quiets_all ends false (after_take a t) b ms h.1 (taken_each (EndsIfQuiet ends) a t own.0 pend) own.1
+quiets_all ends over a b (Posted c ∷ ms) h pend own =
+    let k = h.1.cursor in
+    let p = settled_each (EndsIfQuiet ends) a k (answer_to a.world k) ((choice a.choices / 2) % length (cursors a)) h.1.chosen pend in
+    quiets_all ends (stops (choice a.choices)) (after_settle a k (answer_to a.world k)) b ms h.2 p.1 own
+quiets_all ends over a b (Quieted n ∷ ms) h pend own =
+    let k = h.1.cursor in
+    let p = settled_each (EndsIfQuiet ends) a k (answer_to a.world k) ((choice a.choices / 2) % length (cursors a)) h.1.chosen pend in
+    (ap ends h.1.number ∙ p.0 (quiet_entry (job_of k.item.taken).quiet _ h.1.quiet), quiets_all ends false (after_settle a k (answer_to a.world k)) b ms h.2 p.1 own)
+
+pub quiets_answer : (ends : ℕ → Bool) (files : Files) (choices : List ℕ) (ms : List Move) (b : PartnerState)
+    → Steps false (idle files choices) ms b
+    → All (λ t. (job_of t).quiet ≡ true → ends t.entry.user_data ≡ true) (took ms) → All (λ n. ends n ≡ true) (quieted ms)
+quiets_answer ends files choices ms b h own =
+    All-from_recursion (λ n. ends n ≡ true) (quieted ms)
+    (quiets_all ends false (idle files choices) b ms h tt (recursion_from_All (EndsIfQuiet ends) (took ms) own))

@@ -2,6 +2,7 @@ pub mod Parts
 pub mod Joins
 pub mod Lines
 pub mod Lengths
+pub mod QuietAnswers
 pub mod Simulation
 pub mod Explained
 pub mod Keys
@@ -11,6 +12,8 @@ pub mod Progress
 pub mod Whole
 pub mod Ends
 pub mod Honest
+pub mod LastTurns
+pub mod AnsweredEnd
 pub mod Words
 pub mod Scanned
 pub mod Replaying

@@ -4,14 +4,13 @@ use Rattle.std.proofs.lemmas.Option.{same_Some}
 use Rattle.std.proofs.Math.Nat.{mod-le}
 use Rattle.std.proofs.Common.{ap, sym, subst, ◌∙◌, append_assoc, arith, length-append}
 use Rattle.uring_base.specs.declared.events.Taken.{Taken}
-use Rattle.uring_base.specs.declared.events.Completion.{Completion}
 use Rattle.uring_model.specs.declared.pending.Pending.{Pending}
 use Rattle.uring_model.specs.Jobs.{Job, linked}
 use Rattle.uring_model.specs.Replay.{Row, Open, Done, waits, drains_done, all_done, may, keep_if}
 use Rattle.uring_model.specs.Chosen.{choice, stops}
-use Rattle.uring_model.specs.Moves.{Turned, Took, Posted}
+use Rattle.uring_model.specs.Moves.{Turned, Took, Posted, Quieted}
 use Rattle.uring_model.specs.Asks.{job_of}
-use Rattle.uring_model.specs.Schedule.{Machine, State, cut_of, Cursor, is_ready, ready_cursors, cursors, mark_first, mark_first_if, pass, answer_to, named, after_take, cut_after, settled_by, Settles}
+use Rattle.uring_model.specs.Schedule.{Machine, State, cut_of, Cursor, held, no_drain, is_nil, is_ready, ready_cursors, cursors, mark_first, mark_first_if, pass, answer_to, named, after_take, cut_after, settled_by}
 use Rattle.uring_model.specs.Partner.{file_machine, PartnerState}
 use Rattle.uring_model.specs.Partner as files
 use Rattle.uring_model.specs.Progress.{AlwaysAnswers, FrontIsReady, NoneIsLost}
@@ -74,6 +73,22 @@ cursor_split can front (i ∷ is) k c e =
     kept (is_ready can front i) (record { front = front; item = i; back = is }) (ready_cursors can (front ++ i ∷ []) is) k c (λ x. x.front ++ x.item ∷ x.back ≡ front ++ i ∷ is) e refl
     (λ n q. cursor_split can (front ++ i ∷ []) is n c q ∙ append_assoc front (i ∷ []) is)
 
+pub kept_if : {A : Type 0} (b : Bool) (x : A) (xs : List A) (k : ℕ) (c : A) (P : A → Type 0) → slice_get (keep_if b x xs) k ≡ Some c → (b ≡ true → P x) → ((n : ℕ) → slice_get xs n ≡ Some c → P c) → P c
+kept_if true x xs zero c P e p f = subst P (same_Some x c e) (p refl)
+kept_if true x xs (suc k) c P e p f = f k e
+kept_if false x xs k c P e p f = f k e
+
+-- it waits for nothing
+pub cursor_ready : (can : Taken → Bool) (front is : List Pending) (k : ℕ) (c : Cursor) → slice_get (ready_cursors can front is) k ≡ Some c → (not (held false c.front) && no_drain c.front && (not (job_of c.item.taken).drain || is_nil c.front)) ≡ true
+cursor_ready can front [] k c e = absurd (cc)
+cursor_ready can front (i ∷ is) k c e =
+    kept_if (is_ready can front i) (record { front = front; item = i; back = is }) (ready_cursors can (front ++ i ∷ []) is) k c (λ x. (not (held false x.front) && no_drain x.front && (not (job_of x.item.taken).drain || is_nil x.front)) ≡ true) e
+    (λ q. second (can i.taken || i.marked || i.cut) _ q) (λ n q. cursor_ready can (front ++ i ∷ []) is n c q)
+  where
+    second : (b c : Bool) → (b && c) ≡ true → c ≡ true
+    second true c e = e
+    second false c e = cc
+
 -- marks and cuts leave as many pending as there are
 
 choose_length : {A : Type 0} (b : Bool) (xs ys : List A) (n : ℕ) → length xs ≡ n → length ys ≡ n → length (cond b xs ys) ≡ n
@@ -98,18 +113,18 @@ module _ {W : Type 0} (m : Machine W) where
   front_ready always w i = front_passes (m.can_answer w i.taken) i.marked i.cut (job_of i.taken).drain (always w i.taken)
 
   -- a settling takes one away from what is pending
-  pub one_left : (a : State W) (c : Completion) (h : Settles m a c) → length (settled_by m a h.cursor).pending + 1 ≡ length a.pending
-  one_left a c h =
-      let y = answer_to m a.world h.cursor in
-      let b = linked (job_of h.cursor.item.taken).link in
-      let cut = cut_after h.cursor y in
-      let whole : length (h.cursor.front ++ h.cursor.item ∷ h.cursor.back) ≡ length a.pending = ap length (cursor_split (m.can_answer a.world) [] a.pending ((choice a.choices / 2) % length (cursors m a)) h.cursor h.chosen) in
-      let parts : length (h.cursor.front ++ h.cursor.item ∷ h.cursor.back) ≡ length h.cursor.front + (length h.cursor.back + 1) = simp length-append (omega arith) in
-      let rest : length (h.cursor.front ++ pass b cut h.cursor.back) ≡ length h.cursor.front + length h.cursor.back = simp (length-append, pass-length) refl in
-      let marked : length (mark_first_if y.marks (h.cursor.front ++ pass b cut h.cursor.back)) ≡ length (h.cursor.front ++ pass b cut h.cursor.back) = mark-length y.marks (h.cursor.front ++ pass b cut h.cursor.back) in
+  pub one_left : (a : State W) (k : Cursor) → named (choice a.choices) (cursors m a) ≡ Some k → length (settled_by m a k).pending + 1 ≡ length a.pending
+  one_left a k chosen =
+      let y = answer_to m a.world k in
+      let b = linked (job_of k.item.taken).link in
+      let cut = cut_after k y in
+      let whole : length (k.front ++ k.item ∷ k.back) ≡ length a.pending = ap length (cursor_split (m.can_answer a.world) [] a.pending ((choice a.choices / 2) % length (cursors m a)) k chosen) in
+      let parts : length (k.front ++ k.item ∷ k.back) ≡ length k.front + (length k.back + 1) = simp length-append (omega arith) in
+      let rest : length (k.front ++ pass b cut k.back) ≡ length k.front + length k.back = simp (length-append, pass-length) refl in
+      let marked : length (mark_first_if y.marks (k.front ++ pass b cut k.back)) ≡ length (k.front ++ pass b cut k.back) = mark-length y.marks (k.front ++ pass b cut k.back) in
       omega (arith, marked, rest, whole, parts)
 
-  -- Each entry that was taken is posted or pending.
+  -- Each entry that was taken is settled or pending.
   pub none_is_lost : NoneIsLost m
   none_is_lost over a b [] h = omega (arith, ap (λ x. length x.pending) h)
   none_is_lost over a b (Turned p ∷ ms) h = none_is_lost false a b ms h
@@ -119,7 +134,10 @@ module _ {W : Type 0} (m : Machine W) where
       omega (arith, more, one)
   none_is_lost over a b (Posted c ∷ ms) h =
       let more = none_is_lost (stops (choice a.choices)) (settled_by m a h.1.cursor) b ms h.2 in
-      omega (arith, more, one_left a c h.1)
+      omega (arith, more, one_left a h.1.cursor h.1.chosen)
+  none_is_lost over a b (Quieted n ∷ ms) h =
+      let more = none_is_lost false (settled_by m a h.1.cursor) b ms h.2 in
+      omega (arith, more, one_left a h.1.cursor h.1.chosen)
 
 -- at the file machine, for the code that settles: the front is the one that a small choice names
 
@@ -129,8 +147,8 @@ first_ready i = front_passes true i.marked i.cut (job_of i.taken).drain refl
 pub split_of : (front is : List Pending) (k : ℕ) (c : Cursor) → slice_get (files.ready_cursors front is) k ≡ Some c → c.front ++ c.item ∷ c.back ≡ front ++ is
 split_of front is k c e = cursor_split (λ t. true) front is k c e
 
-pub one_less : (a : PartnerState) (c : Completion) (h : files.Settles a c) → length (files.after_settle a h.cursor (files.answer_to a.world h.cursor)).pending + 1 ≡ length a.pending
-one_less a c h = one_left file_machine a c h
+pub one_less : (a : PartnerState) (k : Cursor) → named (choice a.choices) (files.cursors a) ≡ Some k → length (files.after_settle a k (files.answer_to a.world k)).pending + 1 ≡ length a.pending
+one_less a k chosen = one_left file_machine a k chosen
 
 pub ready_some : (xs : List Pending) → 0 < length xs → 0 < length (files.ready_cursors [] xs)
 ready_some xs h = some_ready (λ t. true) xs first_ready h

@@ -7,10 +7,10 @@ use Rattle.uring_base.specs.declared.events.Completion.{Completion}
 use Rattle.uring_base.specs.declared.buffer.Loan.{Loan}
 use Rattle.uring_model.specs.declared.pending.Pending.{Pending}
 use Rattle.uring_model.specs.Machine.{Answer}
-use Rattle.uring_model.specs.Jobs.{linked}
+use Rattle.uring_model.specs.Jobs.{linked, ends_quietly}
 use Rattle.uring_model.specs.Replay.{cuts, keep_if}
 use Rattle.uring_model.specs.Chosen.{choice, stops}
-use Rattle.uring_model.specs.Moves.{Move, Turned, Took, Posted, took}
+use Rattle.uring_model.specs.Moves.{Move, Turned, Took, Posted, Quieted, took}
 use Rattle.uring_model.specs.Asks.{job_of}
 use Rattle.uring_model.specs.Refines.{Agrees, Refines, IsPlainState, WorldLaws}
 use Rattle.uring_model.specs.Partner.{file_machine}
@@ -19,7 +19,7 @@ use Rattle.uring_model.specs.Asks.{IsJobEntry}
 use Rattle.uring_model.proofs.Joins.{calls_join, no_call_stays}
 use Rattle.uring_model.proofs.Progress.{cursor_split, none_is_lost}
 use Rattle.uring_model.proofs.Whole.{turns_are_moves, posts_fit_room, ready_settles, turns_are_few}
-use Rattle.uring_model.specs.Schedule.{Cursor, Machine, State, cut_of, held, no_drain, is_nil, other_in, mark_first, mark_first_if, pass, pass_end, named, canceled_in, cut_after, after_take, take_all, after_settle, completion_of, Outturn, posting, stays, is_ready, ready_cursors, cursors, answer_to, settled_by, Settles, Steps, settle_then, settle_turn, turn}
+use Rattle.uring_model.specs.Schedule.{Cursor, Machine, State, cut_of, held, no_drain, is_nil, other_in, mark_first, mark_first_if, pass, pass_end, named, canceled_in, cut_after, after_take, take_all, after_settle, completion_of, EntryEnd, ByPost, Quietly, room_after, ends_turn, ending, Outturn, stays, is_ready, ready_cursors, cursors, answer_to, is_quiet_end, settled_by, Settles, SettlesQuietly, Steps, end_of, settle_then, settle_turn, turn}
 
 keep_same : {A : Type 0} (b d : Bool) (x : A) (xs ys : List A) → b ≡ d → xs ≡ ys → keep_if b x xs ≡ keep_if d x ys
 keep_same b d x xs ys p q = ap (λ e. keep_if e x xs) p ∙ ap (λ l. keep_if d x l) q
@@ -110,6 +110,16 @@ module _ {W V : Type 0} (m : Machine W) (n : Machine V) (view : W → V) (Plain 
   post_seen : (t : Taken) (y : Answer W) (z : Answer V) → Allowed t → Agrees view y z → completion_of m t y ≡ completion_of n t z
   post_seen t y z q g = post_same t y.result z.result (m.back t) (n.back t) y.buf z.buf g.result (λ k x. r.backs t k x q) g.buf
 
+  -- both end an entry in the same way
+
+  quiet_same : (w : W) (c : Cursor) → Plain w → Allowed c.item.taken → is_quiet_end m w c ≡ is_quiet_end n (view w) c
+  quiet_same w c p q = ap (ends_quietly (job_of c.item.taken)) (answer_same w c p q).result
+
+  end_same : (w : W) (c : Cursor) → Plain w → Allowed c.item.taken → end_of m w c ≡ end_of n (view w) c
+  end_same w c p q =
+      ap (λ b. cond b (Quietly c.item.taken.entry.user_data) (ByPost (completion_of m c.item.taken (answer_to m w c)))) (quiet_same w c p q)
+      ∙ ap (λ x. cond (is_quiet_end n (view w) c) (Quietly c.item.taken.entry.user_data) (ByPost x)) (post_seen c.item.taken (answer_to m w c) (answer_to n (view w) c) q (answer_same w c p q))
+
   -- the entry that a choice names is one that may be asked, and what is left is plain
   named_fine : (a : State W) (c : Cursor) → Good a → named (choice a.choices) (cursors m a) ≡ Some c → Allowed c.item.taken × Good (settled_by m a c)
   named_fine a c f e =
@@ -124,7 +134,16 @@ module _ {W V : Type 0} (m : Machine W) (n : Machine V) (view : W → V) (Plain 
   settles_seen a post f s = record {
     cursor = s.cursor;
     chosen = sym (named_same a f) ∙ s.chosen;
+    posts = sym (quiet_same a.world s.cursor f.world (named_fine a s.cursor f s.chosen).0) ∙ s.posts;
     completion = s.completion ∙ post_seen s.cursor.item.taken (answer_to m a.world s.cursor) (answer_to n (view a.world) s.cursor) (named_fine a s.cursor f s.chosen).0 (answer_same a.world s.cursor f.world (named_fine a s.cursor f s.chosen).0);
+  }
+
+  quiets_seen : (a : State W) (k : ℕ) → Good a → (s : SettlesQuietly m a k) → SettlesQuietly n (look a) k
+  quiets_seen a k f s = record {
+    cursor = s.cursor;
+    chosen = sym (named_same a f) ∙ s.chosen;
+    quiet = sym (quiet_same a.world s.cursor f.world (named_fine a s.cursor f s.chosen).0) ∙ s.quiet;
+    number = s.number;
   }
 
   take_fine : (a : State W) (t : Taken) → Good a → Allowed t → Good (after_take a t)
@@ -133,7 +152,7 @@ module _ {W V : Type 0} (m : Machine W) (n : Machine V) (view : W → V) (Plain 
   -- steps
 
   pub steps_seen : (over : Bool) (a b : State W) (ms : List Move) → Good a → AllByRecursion Allowed (took ms) → Steps m over a ms b → Steps n over (look a) ms (look b) × Good b
-  unfolding settles_seen
+  unfolding settles_seen quiets_seen
   steps_seen over a b [] f q h = (ap look h, subst Good (sym h) f)
   steps_seen over a b (Turned p ∷ ms) f q h = steps_seen false a b ms f q h
   steps_seen over a b (Took t ∷ ms) f q h =
@@ -144,11 +163,16 @@ module _ {W V : Type 0} (m : Machine W) (n : Machine V) (view : W → V) (Plain 
       let fine = named_fine a x f h.1.chosen in
       let more = steps_seen (stops (choice a.choices)) (settled_by m a x) b ms fine.1 q h.2 in
       ((h.0, settles_seen a c f h.1, subst (λ s. Steps n (stops (choice a.choices)) s ms (look b)) (settled_seen a x f fine.0) more.0), more.1)
+  steps_seen over a b (Quieted k ∷ ms) f q h =
+      let x = h.1.cursor in
+      let fine = named_fine a x f h.1.chosen in
+      let more = steps_seen false (settled_by m a x) b ms fine.1 q h.2 in
+      ((h.0, quiets_seen a k f h.1, subst (λ s. Steps n false s ms (look b)) (settled_seen a x f fine.0) more.0), more.1)
 
   -- turns
 
   record Same (x : Outturn W) (y : Outturn V) : Type 0 where
-    posts : x.posts ≡ y.posts
+    ends : x.ends ≡ y.ends
     state : look x.state ≡ y.state
     fine : Good x.state
 
@@ -156,32 +180,35 @@ module _ {W V : Type 0} (m : Machine W) (n : Machine V) (view : W → V) (Plain 
   branch_same true x1 x2 y1 y2 p q = p
   branch_same false x1 x2 y1 y2 p q = q
 
-  posting_same : (u v : Completion) (x : Outturn W) (y : Outturn V) → u ≡ v → Same x y → Same (posting u x) (posting v y)
-  posting_same u v x y e s = record { posts = ap (λ k. k ∷ x.posts) e ∙ ap (λ l. v ∷ l) s.posts; state = s.state; fine = s.fine }
+  ending_same : (u v : EntryEnd) (x : Outturn W) (y : Outturn V) → u ≡ v → Same x y → Same (ending u x) (ending v y)
+  ending_same u v x y e s = record { ends = ap (λ k. k ∷ x.ends) e ∙ ap (λ l. v ∷ l) s.ends; state = s.state; fine = s.fine }
 
   at_seen : (a : State W) (b : State V) (f : State W → Outturn W) (g : State V → Outturn V) → look a ≡ b → Same (f a) (g (look a)) → Same (f a) (g b)
   at_seen a b f g e s = subst (λ c. Same (f a) (g c)) e s
 
-  then_same : (a : State W) (fp : State W → Outturn W) (gp : State V → Outturn V) (o : Option Cursor) → Good a → named (choice a.choices) (cursors m a) ≡ o
-      → ((b : State W) → Good b → Same (fp b) (gp (look b))) → Same (settle_then m a fp o) (settle_then n (look a) gp o)
-  then_same a fp gp None f e q = record { posts = refl; state = refl; fine = f }
-  then_same a fp gp (Some c) f e q =
-      let fine = named_fine a c f e in
-      let y = answer_to m a.world c in
-      let z = answer_to n (view a.world) c in
-      let g = answer_same a.world c f.world fine.0 in
-      let here = settled_seen a c f fine.0 in
-      let b = settled_by m a c in
-      let d = settled_by n (look a) c in
-      posting_same (completion_of m c.item.taken y) (completion_of n c.item.taken z) (if stops (choice a.choices) then stays b else fp b) (if stops (choice a.choices) then stays d else gp d)
-      (post_seen c.item.taken y z fine.0 g)
-      (branch_same (stops (choice a.choices)) (stays b) (fp b) (stays d) (gp d) (at_seen b d (λ s. stays s) (λ s. stays s) here (record { posts = refl; state = refl; fine = fine.1 })) (at_seen b d fp gp here (q b fine.1)))
+  -- one end and the turn behind it
+  after_same : (stop : Bool) (u v : EntryEnd) (a : State W) (b : State V) (room : ℕ) (fp : ℕ → State W → Outturn W) (gp : ℕ → State V → Outturn V) → u ≡ v → look a ≡ b → Good a → ((room : ℕ) (c : State W) → Good c → Same (fp room c) (gp room (look c)))
+      → Same (ending u (if ends_turn stop u then stays a else fp (room_after room u) a)) (ending v (if ends_turn stop v then stays b else gp (room_after room v) b))
+  after_same stop u v a b room fp gp e here f q =
+      subst (λ v. Same (ending u (if ends_turn stop u then stays a else fp (room_after room u) a)) (ending v (if ends_turn stop v then stays b else gp (room_after room v) b))) e
+      (ending_same u u (if ends_turn stop u then stays a else fp (room_after room u) a) (if ends_turn stop u then stays b else gp (room_after room u) b) refl
+      (branch_same (ends_turn stop u) (stays a) (fp (room_after room u) a) (stays b) (gp (room_after room u) b)
+      (at_seen a b (λ s. stays s) (λ s. stays s) here (record { ends = refl; state = refl; fine = f }))
+      (at_seen a b (fp (room_after room u)) (gp (room_after room u)) here (q (room_after room u) a f))))
 
-  turn_same : (room : ℕ) (a : State W) → Good a → Same (settle_turn m room a) (settle_turn n room (look a))
-  turn_same zero a f = record { posts = refl; state = refl; fine = f }
-  turn_same (suc room) a f =
-      subst (λ o. Same (settle_turn m (suc room) a) (settle_then n (look a) (settle_turn n room) o)) (named_same a f)
-      (then_same a (settle_turn m room) (settle_turn n room) (named (choice a.choices) (cursors m a)) f refl (turn_same room))
+  then_same : (a : State W) (fp : ℕ → State W → Outturn W) (gp : ℕ → State V → Outturn V) (room : ℕ) (o : Option Cursor) → Good a → named (choice a.choices) (cursors m a) ≡ o
+      → ((room : ℕ) (b : State W) → Good b → Same (fp room b) (gp room (look b))) → Same (settle_then m a fp room o) (settle_then n (look a) gp room o)
+  then_same a fp gp room None f e q = record { ends = refl; state = refl; fine = f }
+  then_same a fp gp room (Some c) f e q =
+      let fine = named_fine a c f e in
+      after_same (stops (choice a.choices)) (end_of m a.world c) (end_of n (view a.world) c) (settled_by m a c) (settled_by n (look a) c) room fp gp (end_same a.world c f.world fine.0) (settled_seen a c f fine.0) fine.1 q
+
+  turn_same : (left room : ℕ) (a : State W) → Good a → Same (settle_turn m left room a) (settle_turn n left room (look a))
+  turn_same zero room a f = record { ends = refl; state = refl; fine = f }
+  turn_same (suc left) zero a f = record { ends = refl; state = refl; fine = f }
+  turn_same (suc left) (suc room) a f =
+      subst (λ o. Same (settle_turn m (suc left) (suc room) a) (settle_then n (look a) (settle_turn n left) room o)) (named_same a f)
+      (then_same a (settle_turn m left) (settle_turn n left) room (named (choice a.choices) (cursors m a)) f refl (turn_same left))
 
   take_seen : (ts : List Taken) (a : State W) → look (take_all a ts) ≡ take_all (look a) ts
   take_seen [] a = refl
@@ -192,12 +219,12 @@ module _ {W V : Type 0} (m : Machine W) (n : Machine V) (view : W → V) (Plain 
   takes_fine (t ∷ ts) a f q = takes_fine ts (after_take a t) (take_fine a t f q.0) q.1
 
   pub turn_seen : (room : ℕ) (ts : List Taken) (a : State W) → Good a → AllByRecursion Allowed ts
-      → ((turn m ts room a).posts ≡ (turn n ts room (look a)).posts) × (look (turn m ts room a).state ≡ (turn n ts room (look a)).state) × Good (turn m ts room a).state
+      → ((turn m ts room a).ends ≡ (turn n ts room (look a)).ends) × (look (turn m ts room a).state ≡ (turn n ts room (look a)).state) × Good (turn m ts room a).state
   turn_seen room ts a f q =
       let b = take_all a ts in
-      let s : Same (settle_turn m room b) (turn n ts room (look a)) =
-      subst (λ c. Same (settle_turn m room b) (settle_turn n room c)) (take_seen ts a) (turn_same room b (takes_fine ts a f q)) in
-      (s.posts, s.state, s.fine)
+      let s : Same (settle_turn m (length b.pending) room b) (turn n ts room (look a)) =
+      subst (λ c. Same (settle_turn m (length b.pending) room b) (settle_turn n (length c.pending) room c)) (take_seen ts a) (turn_same (length b.pending) room b (takes_fine ts a f q)) in
+      (s.ends, s.state, s.fine)
 
 pub world_laws : {W : Type 0} (m : Machine W) (view : W → Files) (Plain : W → Type 0) → Refines m file_machine view Plain IsJobEntry → WorldLaws m view Plain
 world_laws m view Plain r = record {

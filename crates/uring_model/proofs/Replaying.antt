@@ -1,25 +1,21 @@
 -- What the replay's functions do, over plain variables.
-use Rattle.std.proofs.Common.{◌≡◌, ◌∙◌, refl, ap, sym, subst, ℕ, zero, suc, ◌+◌, ◌-◌, ◌<◌, ◌≤◌, arith, Bool, true, false, ◌&&◌, ◌||◌, List, [], ◌∷◌, ◌++◌, length, take, drop, get_or, Option, Some, None, length-drop}
-use Rattle.std.specs.Prelude.{ℤ, is_some, nat_le, IsTrue, ◌^◌}
-use Rattle.std.specs.Ordering.{int_eq}
+use Rattle.std.proofs.Common.{◌≡◌, ◌∙◌, refl, ap, sym, subst, ℕ, zero, suc, ◌+◌, ◌-◌, ◌<◌, ◌≤◌, arith, Bool, true, false, ◌||◌, List, [], ◌∷◌, ◌++◌, length, take, drop, get_or, Option, Some, None, length-drop}
+use Rattle.std.specs.Prelude.{ℤ, is_some}
 use Rattle.std.specs.List.{All}
 use Rattle.std.proofs.Math.ListN.{set}
 use Rattle.std.proofs.Math.Bool.{and-false}
 use Rattle.std.proofs.lemmas.List.Elements.{All-set, All-append}
 use Rattle.std.proofs.Math.Seq.{take-append_seam, take-length, drop-length}
-use Rattle.std.proofs.lemmas.Bool.Decides.{nat_tests}
 use Rattle.uring_base.specs.Lending.{laid_over}
 use Rattle.uring_model.specs.declared.jobs.Job as jobs
-use Rattle.uring_model.specs.declared.jobs.JobKind.{JobKind}
-use Rattle.uring_model.specs.declared.jobs.JobKind.TheVariants as kinds
 use Rattle.uring_model.specs.declared.jobs.Link.TheVariants.{Free}
 use Rattle.uring_model.specs.declared.rows.Row as code
 use Rattle.uring_model.specs.declared.rows.Settled.{Settled}
 use Rattle.uring_model.specs.declared.operation.Operation.{Operation}
 use Rattle.uring_model.specs.Machine.{Files, FileAnswer, step}
-use Rattle.uring_model.specs.Jobs.{model_job, model_jobs, model_op, buf_lent, is_valid_op, is_valid_job}
+use Rattle.uring_model.specs.Jobs.{Job, model_job, model_jobs, model_op, buf_lent}
 use Rattle.uring_model.specs.Operations.{op_in, answer_in, FindsAs}
-use Rattle.uring_model.specs.Replay.{Done, Place, ReplayState, can_mark, can_mark_other, mark_if, settle, severed, may, place_of, post_at, settled, outcome_of, last_unlinked}
+use Rattle.uring_model.specs.Replay.{Done, Place, ReplayState, can_mark, can_mark_other, mark_if, settle, severed, may, place_of, settle_at, settled, outcome_of, last_unlinked}
 use Rattle.uring_model.specs.Rows.{rows_in, place_between, HasCount, HasCounts}
 use Rattle.uring_model.proofs.Scanned.{place_at, place_past, place_in, place_if, rows_put}
 use Rattle.uring_model.proofs.Steps.{step_finds}
@@ -53,15 +49,15 @@ answer_parts a r buf part files marks h er eb ef em =
     rw (laid_whole buf part h) e
 
 -- the last job without its link
-pub unlinked : (js : List jobs.Job) (k : ℕ) (j : jobs.Job) → k + 1 ≡ length js → j ≡ get_or js k j → model_jobs (set js k (record { kind = j.kind; drain = j.drain; link = Free })) ≡ last_unlinked (model_jobs js)
+pub unlinked : (js : List jobs.Job) (k : ℕ) (j : jobs.Job) → k + 1 ≡ length js → j ≡ get_or js k j → model_jobs (set js k (record j { link = Free })) ≡ last_unlinked (model_jobs js)
 unlinked [] k j h e = absurd (omega arith)
-unlinked (x ∷ []) zero j h e = ap (λ y. model_job (record { kind = y.kind; drain = y.drain; link = Free }) ∷ []) e
+unlinked (x ∷ []) zero j h e = ap (λ y. model_job (record y { link = Free }) ∷ []) e
 unlinked (x ∷ []) (suc k) j h e = absurd (omega arith)
 unlinked (x ∷ y ∷ js) zero j h e = absurd (omega arith)
 unlinked (x ∷ y ∷ js) (suc k) j h e = ap (λ l. model_job x ∷ l) (unlinked (y ∷ js) k j (omega arith) e)
 
-pub post_past : (s : ReplayState) (r : ℤ) (k : ℕ) (rows : List code.Row) → length rows ≤ k → None ≡ post_at s r (place_of [] (rows_in rows) k)
-post_past s r k rows h = ap (post_at s r) (sym (place_past [] k rows h))
+pub settle_past : (s : ReplayState) (told : Job → ℤ → Bool) (k : ℕ) (rows : List code.Row) → length rows ≤ k → None ≡ settle_at s told (place_of [] (rows_in rows) k)
+settle_past s told k rows h = ap (settle_at s told) (sym (place_past [] k rows h))
 
 place_if_some : (o : Option Settled) (p : Place) → is_some o ≡ true → place_if o p ≡ None
 place_if_some None p h = cc
@@ -71,21 +67,21 @@ place_if_none : (o : Option Settled) (p : Place) → is_some o ≡ false → pla
 place_if_none None p h = refl
 place_if_none (Some o) p h = cc
 
-pub post_done : (s : ReplayState) (r : ℤ) (k : ℕ) (rows : List code.Row) (row : code.Row) → k < length rows → row ≡ get_or rows k row → is_some row.outcome ≡ true → None ≡ post_at s r (place_of [] (rows_in rows) k)
-post_done s r k rows row h e o = ap (post_at s r) (sym (place_at [] k rows row h e ∙ place_if_some row.outcome (place_in [] rows k row) o))
+pub settle_done : (s : ReplayState) (told : Job → ℤ → Bool) (k : ℕ) (rows : List code.Row) (row : code.Row) → k < length rows → row ≡ get_or rows k row → is_some row.outcome ≡ true → None ≡ settle_at s told (place_of [] (rows_in rows) k)
+settle_done s told k rows row h e o = ap (settle_at s told) (sym (place_at [] k rows row h e ∙ place_if_some row.outcome (place_in [] rows k row) o))
 
-pub post_open : (s : ReplayState) (r : ℤ) (k : ℕ) (rows : List code.Row) (row : code.Row) → k < length rows → row ≡ get_or rows k row → is_some row.outcome ≡ false → post_at s r (Some (place_between (take k rows) row (drop (k + 1) rows))) ≡ post_at s r (place_of [] (rows_in rows) k)
-post_open s r k rows row h e o =
+pub settle_open_row : (s : ReplayState) (told : Job → ℤ → Bool) (k : ℕ) (rows : List code.Row) (row : code.Row) → k < length rows → row ≡ get_or rows k row → is_some row.outcome ≡ false → settle_at s told (Some (place_between (take k rows) row (drop (k + 1) rows))) ≡ settle_at s told (place_of [] (rows_in rows) k)
+settle_open_row s told k rows row h e o =
     let one : k + 1 ≡ suc k = omega arith in
-    ap (λ n. post_at s r (Some (place_between (take k rows) row (drop n rows)))) one
-    ∙ ap (post_at s r) (sym (place_at [] k rows row h e ∙ place_if_none row.outcome (place_in [] rows k row) o))
+    ap (λ n. settle_at s told (Some (place_between (take k rows) row (drop n rows)))) one
+    ∙ ap (settle_at s told) (sym (place_at [] k rows row h e ∙ place_if_none row.outcome (place_in [] rows k row) o))
 
-pub post_early : (s : ReplayState) (r : ℤ) (p : Place) → may p.before p.job ≡ false → None ≡ post_at s r (Some p)
-post_early s r p h = rw h refl
+pub settle_early : (s : ReplayState) (told : Job → ℤ → Bool) (p : Place) → may p.before p.job ≡ false → None ≡ settle_at s told (Some p)
+settle_early s told p h = rw h refl
 
-pub post_wrong : (s : ReplayState) (r : ℤ) (p : Place) (a : FileAnswer) → a ≡ settle s.files p → int_eq a.result r ≡ false → None ≡ post_at s r (Some p)
-post_wrong s r p a e h =
-    let t : int_eq (settle s.files p).result r ≡ false = subst (λ a. int_eq a.result r ≡ false) e h in
+pub settle_wrong : (s : ReplayState) (told : Job → ℤ → Bool) (p : Place) (a : FileAnswer) → a ≡ settle s.files p → told p.job a.result ≡ false → None ≡ settle_at s told (Some p)
+settle_wrong s told p a e h =
+    let t : told p.job (settle s.files p).result ≡ false = subst (λ a. told p.job a.result ≡ false) e h in
     rw (t, and-false (may p.before p.job)) refl
 
 -- what stands behind a place, as a range of the slice
@@ -94,9 +90,9 @@ settle_behind a files before row rows n e =
     e ∙ ap (λ m. settle files (place_between before row (take m (drop n rows)))) (sym (length-drop n rows))
     ∙ ap (λ l. settle files (place_between before row l)) (take-length (drop n rows))
 
-pub post_right : (s : ReplayState) (r : ℤ) (p : Place) (a : FileAnswer) → may p.before p.job ≡ true → a ≡ settle s.files p → int_eq a.result r ≡ true → Some (settled s p a) ≡ post_at s r (Some p)
-post_right s r p a m e h =
-    let t : int_eq (settle s.files p).result r ≡ true = subst (λ a. int_eq a.result r ≡ true) e h in
+pub settle_right : (s : ReplayState) (told : Job → ℤ → Bool) (p : Place) (a : FileAnswer) → may p.before p.job ≡ true → a ≡ settle s.files p → told p.job a.result ≡ true → Some (settled s p a) ≡ settle_at s told (Some p)
+settle_right s told p a m e h =
+    let t : told p.job (settle s.files p).result ≡ true = subst (λ a. told p.job a.result ≡ true) e h in
     rw (m, t) (ap (λ a. Some (settled s p a)) e)
 
 got_same : (k : ℕ) (rows : List code.Row) (a b : code.Row) → k < length rows → a ≡ get_or rows k a → b ≡ get_or rows k b → a ≡ b
@@ -108,11 +104,11 @@ abbrev pub settled_row : code.Row → ℤ → List ℕ → code.Row
 settled_row now r buf = record { job = now.job; marked = now.marked; outcome = Some (record { result = r; buf = buf }) }
 
 -- the state that is left where a job settled, and marked the job that its cancel found
-pub posted : (s : ReplayState) (k : ℕ) (rows new : List code.Row) (row now : code.Row) (a : FileAnswer) (r : ℤ)
+pub settled_so : (s : ReplayState) (k : ℕ) (rows new : List code.Row) (row now : code.Row) (a : FileAnswer) (r : ℤ)
     → k < length rows → row ≡ get_or rows k row → now ≡ get_or rows k now → r ≡ a.result
     → rows_in new ≡ mark_if a.marks (rows_in (set rows k (settled_row now r a.buf)))
     → record { files = a.world; rows = rows_in new; rest = s.rest } ≡ settled s (place_between (take k rows) row (drop (k + 1) rows)) a
-posted s k rows new row now a r h e en er en' =
+settled_so s k rows new row now a r h e en er en' =
     let one : suc k ≡ k + 1 = omega arith in
     ap (λ rs. record { files = a.world; rows = rs; rest = s.rest })
     (en' ∙ ap (mark_if a.marks)
@@ -130,21 +126,3 @@ counts_push rows rest old job e all more = All-append (λ row. HasCount row.job)
 
 pub counts_rest : (rest old : List jobs.Job) (job : jobs.Job) → old ≡ job ∷ rest → All HasCount old → All HasCount rest
 counts_rest rest old job e more = λ k d h. subst (All HasCount) e more (suc k) d (omega arith)
-
-at_most : (a b : ℕ) (rest : Bool) → IsTrue (nat_le a b && rest) → a ≤ b
-at_most a b rest h = grind (arith, nat_tests)
-
-kind_count : (kind : JobKind) → IsTrue (is_valid_op (model_op kind) (buf_lent kind)) → length (buf_lent kind) < 2 ^ 31
-kind_count kinds.Nop h = omega arith
-kind_count (kinds.Read file offset buf) h = let le = at_most (length buf) 2147483647 _ h in omega arith
-kind_count (kinds.Write file offset buf) h = let le = at_most (length buf) 2147483647 _ h in omega arith
-kind_count (kinds.Fsync file) h = omega arith
-kind_count (kinds.Ftruncate file len) h = omega arith
-kind_count (kinds.Cancel job) h = omega arith
-
-valid_count : (j : jobs.Job) → IsTrue (is_valid_job (model_job j)) → HasCount j
-valid_count j h = kind_count j.kind h
-
--- a valid job has a count
-pub valid_counts : (js : List jobs.Job) → All (λ j. IsTrue (is_valid_job (model_job j))) js → All HasCount js
-valid_counts js all = λ k d h. valid_count (get_or js k d) (all k d h)

@@ -2,7 +2,7 @@
 use Rattle.std.specs.Prelude.{◌≡◌, ℕ, Bool, true, false, nat_eq, List, [], ◌∷◌, pos, Option, Some, None, refl}
 use Rattle.uring_base.specs.declared.buffer.Loan.{Loan}
 use Rattle.uring_base.specs.declared.events.LogEvent.{LogEvent}
-use Rattle.uring_base.specs.declared.events.LogEvent.TheVariants.{Turn, Take, Post}
+use Rattle.uring_base.specs.declared.events.LogEvent.TheVariants.{Turn, Take, Post, Quiet}
 use Rattle.uring_base.specs.Words.{blank}
 use Rattle.uring_model.specs.Strange.{first_strange, nothing_seen}
 
@@ -20,7 +20,7 @@ abbrev final : ℕ → Option Loan → LogEvent
 final job l = Post job (pos 0) true l
 
 abbrev first : List LogEvent → Option ℕ
-first log = first_strange lends nothing_seen log
+first log = first_strange lends (false ∷ false ∷ []) nothing_seen log
 
 nothing : first [] ≡ None
 nothing = refl
@@ -60,3 +60,17 @@ loan_too_early = refl
 -- the first one is named
 first_of_two : first (Turn 1 ∷ final 7 None ∷ final 8 None ∷ []) ≡ Some 7
 first_of_two = refl
+
+-- a quiet job is answered by the end of the next one, and a post for it is strange then
+
+abbrev first_quiet : List LogEvent → Option ℕ
+first_quiet log = first_strange (λ j. false) (true ∷ true ∷ false ∷ []) nothing_seen log
+
+quiet_before : first_quiet (Turn 3 ∷ taken 0 ∷ taken 1 ∷ taken 2 ∷ Quiet 0 ∷ final 1 None ∷ final 2 None ∷ []) ≡ None
+quiet_before = refl
+
+quiet_after : first_quiet (Turn 3 ∷ taken 0 ∷ taken 1 ∷ taken 2 ∷ final 1 None ∷ final 0 None ∷ []) ≡ Some 0
+quiet_after = refl
+
+quiet_chain : first_quiet (Turn 3 ∷ taken 0 ∷ taken 1 ∷ taken 2 ∷ final 2 None ∷ final 0 None ∷ []) ≡ Some 0
+quiet_chain = refl

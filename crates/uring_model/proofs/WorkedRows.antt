@@ -5,16 +5,16 @@ use Rattle.std.specs.FinMap as map
 use Rattle.std.specs.Cmp.{nat_cmp_total}
 use Rattle.std.proofs.Common.{ap, inl, inr}
 use Rattle.uring_base.specs.declared.events.Event.{Event}
-use Rattle.uring_base.specs.declared.events.Event.TheVariants.{Turn, Take, Post}
+use Rattle.uring_base.specs.declared.events.Event.TheVariants.{Turn, Take, Post, Quiet}
 use Rattle.uring_model.specs.declared.jobs.Link.{Link}
 use Rattle.uring_model.specs.declared.jobs.Link.TheVariants.{Free, Soft, Hard}
 use Rattle.uring_model.specs.Machine.{Files, ModelOp, Nop, Read, Write, Fsync, Ftruncate, Cancel, step}
-use Rattle.uring_model.specs.Jobs.{Job}
+use Rattle.uring_model.specs.Jobs.{Job, is_valid_job}
 use Rattle.uring_model.specs.Replay.{Result, replay, first_state, table, IsBusy}
 use Rattle.uring_model.specs.Chosen.{IsChosen}
 
 abbrev job : ModelOp → List ℕ → Job
-job op buf = record { op = op; buf = buf; drain = false; link = Free }
+job op buf = record { op = op; buf = buf; drain = false; quiet = false; link = Free }
 
 abbrev linking : Link → Job → Job
 linking l j = record j { link = l }
@@ -24,6 +24,10 @@ drained j = record j { drain = true }
 
 abbrev out : ℤ → List ℕ → Option Result
 out r buf = Some (record { result = r; buf = buf })
+
+-- quiet, and linked softly to the next
+abbrev quiet : Job → Job
+quiet j = record j { quiet = true; link = Soft }
 
 -- the outcomes of a journal, where it replays
 abbrev told : List Job → Files → List Event → Option (List (Option Result))
@@ -290,3 +294,52 @@ ring_of_one = (inl refl, (inl refl, (inl refl, tt)))
 not_busy : IsBusy 2 3 0 (Turn 1 ∷ Take 0 ∷ Post 0 (pos 0) true ∷ []) → ⊥
 not_busy (inl e, h) = cc
 not_busy (inr e, h) = cc
+
+-- quiet jobs
+
+abbrev quiet_pair : List Job
+quiet_pair = quiet (job Nop []) ∷ job Nop [] ∷ []
+
+abbrev quiet_first : List Event
+quiet_first = Turn 2 ∷ Take 0 ∷ Take 1 ∷ Quiet 0 ∷ Post 1 (pos 0) true ∷ []
+
+quiet_succeeds : told quiet_pair map.empty quiet_first ≡ Some (out (pos 0) [] ∷ out (pos 0) [] ∷ [])
+unfolding step
+quiet_succeeds = refl
+
+-- a quiet end doesn't end its turn, whatever the choice is, and uses it up
+quiet_chosen : IsChosen quiet_first (0 ∷ []) false (first_state quiet_pair map.empty)
+unfolding step
+quiet_chosen = (refl, (refl, (refl, refl, (refl, refl, tt))))
+
+-- its success isn't posted, and its failure isn't silent
+quiet_posted : told quiet_pair map.empty (Turn 2 ∷ Take 0 ∷ Take 1 ∷ Post 0 (pos 0) true ∷ []) ≡ None
+unfolding step
+quiet_posted = refl
+
+quiet_fails : told (quiet (job (Cancel 0) []) ∷ job Nop [] ∷ []) map.empty (both_done (negsuc 1) (negsuc 124)) ≡ Some (out (negsuc 1) [] ∷ out (negsuc 124) [] ∷ [])
+unfolding step
+quiet_fails = refl
+
+quiet_hidden : told (quiet (job (Cancel 0) []) ∷ job Nop [] ∷ []) map.empty (Turn 2 ∷ Take 0 ∷ Take 1 ∷ Quiet 0 ∷ []) ≡ None
+unfolding step
+quiet_hidden = refl
+
+-- a job that isn't quiet doesn't end so
+not_quiet : told (job Nop [] ∷ job Nop [] ∷ []) map.empty (Turn 2 ∷ Take 0 ∷ Take 1 ∷ Quiet 0 ∷ []) ≡ None
+unfolding step
+not_quiet = refl
+
+-- a quiet job is valid with a link, where it moves no bytes and isn't the last
+
+valid_quiet : is_valid_job false (quiet (job Nop [])) ≡ true
+valid_quiet = refl
+
+quiet_last : is_valid_job true (quiet (job Nop [])) ≡ false
+quiet_last = refl
+
+quiet_free : is_valid_job false (record (job Nop []) { quiet = true }) ≡ false
+quiet_free = refl
+
+quiet_read : is_valid_job false (quiet (job (Read 3 0) (0 ∷ []))) ≡ false
+quiet_read = refl

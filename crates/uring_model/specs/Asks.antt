@@ -1,5 +1,5 @@
 -- What an entry asks: its operation, buffer, drain and link, as a job.
-use Rattle.std.specs.Prelude.{◌≡◌, ℕ, Bool, true, false, ◌&&◌, cond, nat_lt, nat_eq, length, Option, Some, None}
+use Rattle.std.specs.Prelude.{◌≡◌, ℕ, Bool, true, false, ◌&&◌, cond, nat_lt, nat_eq, length, Option, Some, None, is_none}
 use Rattle.std.specs.Int.{w32, cast_unsigned}
 use Rattle.uring_base.specs.declared.squeue.Entry.{Entry}
 use Rattle.uring_base.specs.declared.buffer.Loan.{Loan}
@@ -7,7 +7,7 @@ use Rattle.uring_base.specs.declared.events.Taken.{Taken}
 use Rattle.uring_base.specs.FlagBits.{has_flags}
 use Rattle.uring_base.specs.Errnos.{error_result}
 use Rattle.uring_base.specs.declared.errno.TheConstants.{EINVAL, EOPNOTSUPP}
-use Rattle.uring_base.specs.declared.flags.TheConstants.Flags.{IO_DRAIN, IO_LINK, IO_HARDLINK, BUFFER_SELECT}
+use Rattle.uring_base.specs.declared.flags.TheConstants.Flags.{IO_DRAIN, IO_LINK, IO_HARDLINK, BUFFER_SELECT, SKIP_SUCCESS}
 use Rattle.uring_base.specs.declared.limits.TheConstants.{MAX_BUFFER}
 use Rattle.uring_base.specs.declared.opcodes.TheConstants as opcodes
 use Rattle.uring_base.specs.Loans.{part_of}
@@ -41,9 +41,9 @@ op_of t =
 abbrev pub link_of : ℕ → Link
 link_of flags = cond (has_flags flags IO_LINK) Soft (cond (has_flags flags IO_HARDLINK) Hard Free)
 
--- the job that an entry asks; its buffer is the lent part of the loan
+-- The job that an entry asks; its buffer is the lent part of the loan. Without a loan it is quiet where SKIP_SUCCESS says so.
 abbrev pub job_of : Taken → Job
-job_of t = record { op = op_of t; buf = part_of t.loan; drain = has_flags t.entry.flags IO_DRAIN; link = link_of t.entry.flags }
+job_of t = record { op = op_of t; buf = part_of t.loan; drain = has_flags t.entry.flags IO_DRAIN; quiet = has_flags t.entry.flags SKIP_SUCCESS && is_none t.loan; link = link_of t.entry.flags }
 
 -- whether this is one of the six operations that jobs ask
 abbrev pub is_job_operation : ModelOp → Bool

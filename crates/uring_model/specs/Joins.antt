@@ -1,10 +1,9 @@
 -- Calls in a row: what their moves are, taken together.
 use Rattle.std.specs.Prelude.{◌≡◌, ℕ, ◌+◌, List, [], ◌++◌, map, Option}
 use Rattle.uring_base.specs.declared.events.Taken.{Taken}
-use Rattle.uring_base.specs.declared.events.Completion.{Completion}
 use Rattle.uring_base.specs.declared.events.LogEvent.{LogEvent}
-use Rattle.uring_model.specs.Moves.{Move, Took, Posted, took, posted, IsLogged}
-use Rattle.uring_model.specs.Schedule.{Machine, State, IsServed}
+use Rattle.uring_model.specs.Moves.{Move, Took, took, posted, IsLogged}
+use Rattle.uring_model.specs.Schedule.{Machine, State, EntryEnd, ended, posts_of, IsServed}
 use Rattle.uring_model.specs.Progress.{turns}
 use Rattle.uring_model.specs.Honest.{TakesWithinTurns}
 
@@ -22,7 +21,7 @@ pub record NoMoveStays : Type 0 where
 
 -- a turn's moves post what it says that they do
 abbrev pub TurnsPostTheirs : Type 0
-TurnsPostTheirs = (ts : List Taken) (cs : List Completion) → posted (map Took ts ++ map Posted cs) ≡ cs
+TurnsPostTheirs = (ts : List Taken) (es : List EntryEnd) → posted (map Took ts ++ map ended es) ≡ posts_of es
 
 module _ {W : Type 0} (m : Machine W) where
   -- the moves of calls in a row lead on as those of one

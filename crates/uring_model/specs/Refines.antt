@@ -53,7 +53,7 @@ pub record WorldLaws {W : Type 0} (m : Machine W) (view : W → Files) (Plain : 
   pub ready : ReadySettles m
   pub steps_seen : (over : Bool) (a b : State W) (ms : List Move) → IsPlainState Plain IsJobEntry a → AllByRecursion IsJobEntry (took ms) → Steps m over a ms b → Steps file_machine over (viewed view a) ms (viewed view b) × IsPlainState Plain IsJobEntry b
   pub turns_seen : (room : ℕ) (ts : List Taken) (a : State W) → IsPlainState Plain IsJobEntry a → AllByRecursion IsJobEntry ts
-      → ((turn m ts room a).posts ≡ (turn file_machine ts room (viewed view a)).posts) × (viewed view (turn m ts room a).state ≡ (turn file_machine ts room (viewed view a)).state) × IsPlainState Plain IsJobEntry (turn m ts room a).state
+      → ((turn m ts room a).ends ≡ (turn file_machine ts room (viewed view a)).ends) × (viewed view (turn m ts room a).state ≡ (turn file_machine ts room (viewed view a)).state) × IsPlainState Plain IsJobEntry (turn m ts room a).state
 
 -- the files as a world of their own: all are plain, and all is seen
 abbrev pub AnyFiles : Files → Type 0

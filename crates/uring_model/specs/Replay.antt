@@ -2,10 +2,10 @@
 use Rattle.std.specs.Prelude.{◌≡◌, ℕ, ◌+◌, zero, suc, Bool, true, false, ◌&&◌, ◌||◌, not, if◌then◌else◌, cond, nat_lt, nat_eq, List, [], ◌∷◌, ◌++◌, length, replicate, ℤ, pos, negsuc, Option, Some, None, ◌⊎◌}
 use Rattle.std.specs.Ordering.{int_eq}
 use Rattle.uring_base.specs.declared.events.Event.{Event}
-use Rattle.uring_base.specs.declared.events.Event.TheVariants.{Turn, Take, Post}
+use Rattle.uring_base.specs.declared.events.Event.TheVariants.{Turn, Take, Post, Quiet}
 use Rattle.uring_model.specs.declared.jobs.Link.TheVariants.{Free}
 use Rattle.uring_model.specs.Machine.{Files, ModelOp, FileAnswer, step, canceled}
-use Rattle.uring_model.specs.Jobs.{Job, linked, is_soft, moves_bytes}
+use Rattle.uring_model.specs.Jobs.{Job, linked, is_soft, moves_bytes, ends_quietly}
 
 -- what came of a job
 pub record Result : Type 0 where
@@ -126,10 +126,14 @@ outcome_of a = record { result = a.result; buf = a.buf }
 abbrev pub settled : ReplayState → Place → FileAnswer → ReplayState
 settled s p a = record { files = a.world; rows = mark_if a.marks (p.before ++ Done p.job (outcome_of a) ∷ p.after); rest = s.rest }
 
--- a post of this result, where the job at the place may settle and its settling gives the result
-abbrev pub post_at : ReplayState → ℤ → Option Place → Option ReplayState
-post_at s r None = None
-post_at s r (Some p) = if may p.before p.job && int_eq (settle s.files p).result r then Some (settled s p (settle s.files p)) else None
+-- The job at a place settles where it may, and where its settling is told as `told` asks of the job and its result.
+abbrev pub settle_at : ReplayState → (Job → ℤ → Bool) → Option Place → Option ReplayState
+settle_at s told None = None
+settle_at s told (Some p) = if may p.before p.job && told p.job (settle s.files p).result then Some (settled s p (settle s.files p)) else None
+
+-- a post of result r tells of this result of a job
+abbrev pub by_post : ℤ → Job → ℤ → Bool
+by_post r job result = int_eq result r && not (ends_quietly job r)
 
 -- a take of job j, where it is the next of those not taken
 abbrev pub take_job : ReplayState → ℕ → List Job → Option ReplayState
@@ -140,7 +144,8 @@ take_job s j (job ∷ rest) = if nat_eq j (length s.rows) then Some (record { fi
 abbrev pub replay_event : ReplayState → Event → Option ReplayState
 replay_event s (Turn p) = Some s
 replay_event s (Take j) = take_job s j s.rest
-replay_event s (Post j r fin) = if fin then post_at s r (place_of [] s.rows j) else None
+replay_event s (Post j r fin) = if fin then settle_at s (by_post r) (place_of [] s.rows j) else None
+replay_event s (Quiet j) = settle_at s ends_quietly (place_of [] s.rows j)
 
 -- go on where there is a state
 abbrev pub replay_next : List Event → Option ReplayState → (List Event → ReplayState → Option ReplayState) → Option ReplayState
@@ -155,7 +160,7 @@ replay_from (e ∷ es) s = replay_next es (replay_event s e) (λ _ t. replay_fro
 -- the last job's link links nothing
 abbrev pub last_unlinked : List Job → List Job
 last_unlinked [] = []
-last_unlinked (job ∷ []) = record { op = job.op; buf = job.buf; drain = job.drain; link = Free } ∷ []
+last_unlinked (job ∷ []) = record job { link = Free } ∷ []
 last_unlinked (job ∷ next ∷ jobs) = job ∷ last_unlinked (next ∷ jobs)
 
 -- no job is taken
@@ -178,6 +183,7 @@ IsBusy c n takes [] = Unit {0}
 IsBusy c n takes (Turn p ∷ es) = ((p ≡ c) ⊎ (takes + p ≡ n)) × IsBusy c n takes es
 IsBusy c n takes (Take j ∷ es) = IsBusy c n (takes + 1) es
 IsBusy c n takes (Post j r fin ∷ es) = IsBusy c n takes es
+IsBusy c n takes (Quiet j ∷ es) = IsBusy c n takes es
 
 -- the outcomes of these rows, in the order of the jobs
 abbrev pub outcomes : List Row → List (Option Result)

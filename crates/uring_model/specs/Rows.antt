@@ -1,5 +1,5 @@
 -- A replay's state as the program holds it.
-use Rattle.std.specs.Prelude.{◌<◌, ◌^◌, Bool, false, not, cond, List, [], ◌∷◌, ◌++◌, length, map, replicate, Option, Some, None}
+use Rattle.std.specs.Prelude.{ℤ, ◌<◌, ◌^◌, Bool, false, not, cond, List, [], ◌∷◌, ◌++◌, length, map, replicate, Option, Some, None}
 use Rattle.std.specs.List.{All}
 use Rattle.uring_model.specs.declared.jobs.Job as jobs
 use Rattle.uring_model.specs.declared.jobs.Outcome.{Outcome}
@@ -7,9 +7,11 @@ use Rattle.uring_model.specs.declared.rows.Settled.{Settled}
 use Rattle.uring_model.specs.declared.rows.Row as code
 use Rattle.uring_model.specs.declared.settling.Settling.{Settling}
 use Rattle.uring_model.specs.declared.replayed.Replayed.{Replayed}
+use Rattle.uring_model.specs.declared.replayed.Telling.{Telling}
+use Rattle.uring_model.specs.declared.replayed.Telling.TheVariants.{ByPost, Quietly}
 use Rattle.uring_model.specs.Machine.{Files, FileAnswer}
-use Rattle.uring_model.specs.Jobs.{Job, model_job, model_jobs, buf_lent, moves_bytes}
-use Rattle.uring_model.specs.Replay.{Row, Open, Done, Result, Place, ReplayState}
+use Rattle.uring_model.specs.Jobs.{Job, model_job, model_jobs, buf_lent, moves_bytes, ends_quietly}
+use Rattle.uring_model.specs.Replay.{Row, Open, Done, Result, Place, ReplayState, by_post}
 
 -- what came of a settled job
 abbrev pub result_in : Settled → Result
@@ -42,9 +44,9 @@ is_markable None = false
 is_markable (Some (Open job m)) = not m
 is_markable (Some (Done job r)) = false
 
--- what the program says of a job: nothing where it has no outcome, and its buffer where it has one
+-- What the program says of a job with this result: its buffer where it has one, and that it is quiet where nothing was posted.
 abbrev pub outcome_told : Job → Result → Outcome
-outcome_told job r = record { result = r.result; buf = cond (moves_bytes job.op) (Some r.buf) None }
+outcome_told job r = record { result = r.result; buf = cond (moves_bytes job.op) (Some r.buf) None; quiet = ends_quietly job r.result }
 
 -- the same of these rows
 abbrev pub outcomes_told : List Row → List (Option Outcome)
@@ -63,6 +65,11 @@ settling_answer s files = record { result = s.answered.result; buf = s.buf; worl
 -- the place of a row between these
 abbrev pub place_between : List code.Row → code.Row → List code.Row → Place
 place_between before row after = record { before = rows_in before; job = model_job row.job; marked = row.marked; after = rows_in after }
+
+-- whether an event that tells so tells of a job's settling with this result
+abbrev pub told_by : Telling → Job → ℤ → Bool
+told_by (ByPost r) = by_post r
+told_by Quietly = ends_quietly
 
 -- the state that the program holds
 abbrev pub state_in : Replayed → ReplayState

@@ -1,6 +1,6 @@
 -- The schedule over any world: links, drains, choices, marks, severing, and the turn.
 -- A partner takes entries, which are then pending in take order. One of those that are ready settles at a time: the machine
--- answers it, and a completion is posted. An entry behind a linked one waits for it, and is cut (canceled unasked) where the
+-- answers it, and a completion is posted, except for a quiet one that succeeds. An entry behind a linked one waits for it, and is cut (canceled unasked) where the
 -- chain was severed before it; one that a cancel marked is canceled too.
 use Rattle.std.specs.Prelude.{◌≡◌, ℕ, ◌/◌, ◌%◌, zero, suc, Bool, true, false, ◌&&◌, ◌||◌, not, if◌then◌else◌, cond, nat_eq, List, [], ◌∷◌, ◌++◌, length, drop, ℤ, Option, Some, None, slice_get}
 use Rattle.uring_base.specs.declared.buffer.Loan.{Loan}
@@ -8,10 +8,10 @@ use Rattle.uring_base.specs.declared.events.Taken.{Taken}
 use Rattle.uring_base.specs.declared.events.Completion.{Completion}
 use Rattle.uring_model.specs.declared.pending.Pending.{Pending}
 use Rattle.uring_model.specs.Machine.{Answer}
-use Rattle.uring_model.specs.Jobs.{linked}
+use Rattle.uring_model.specs.Jobs.{linked, ends_quietly}
 use Rattle.uring_model.specs.Replay.{cuts, keep_if}
 use Rattle.uring_model.specs.Chosen.{choice, stops}
-use Rattle.uring_model.specs.Moves.{Move, Turned, Took, Posted}
+use Rattle.uring_model.specs.Moves.{Move, Turned, Took, Posted, Quieted}
 use Rattle.uring_model.specs.Asks.{job_of}
 use Rattle.uring_base.specs.Errnos.{error_result}
 use Rattle.uring_base.specs.declared.errno.TheConstants.{ECANCELED}
@@ -141,18 +141,44 @@ after_settle s c a =
       choices = drop 1 s.choices;
     }
 
--- what a turn posts, and the state that it leaves
+-- how an entry ends: with a completion, or, where it is quiet and succeeds, with none
+pub data EntryEnd : Type 0 where
+  ByPost : Completion → EntryEnd
+  Quietly : ℕ → EntryEnd
+
+-- the move that it is
+abbrev pub ended : EntryEnd → Move
+ended (ByPost c) = Posted c
+ended (Quietly n) = Quieted n
+
+-- the completions among these
+abbrev pub posts_of : List EntryEnd → List Completion
+posts_of [] = []
+posts_of (ByPost c ∷ es) = c ∷ posts_of es
+posts_of (Quietly n ∷ es) = posts_of es
+
+-- the room that is left behind an end, where there was one more than this: a quiet one takes none
+abbrev pub room_after : ℕ → EntryEnd → ℕ
+room_after room (ByPost c) = room
+room_after room (Quietly n) = suc room
+
+-- whether an end is the turn's last, by whether its choice is even: a quiet one never is
+abbrev pub ends_turn : Bool → EntryEnd → Bool
+ends_turn stop (ByPost c) = stop
+ends_turn stop (Quietly n) = false
+
+-- how the entries end that a turn settles, and the state that it leaves
 pub record Outturn (W : Type 0) : Type 0 where
-  pub posts : List Completion
+  pub ends : List EntryEnd
   pub state : State W
 
--- this completion, and then what a turn does
-abbrev pub posting : {W : Type 0} → Completion → Outturn W → Outturn W
-posting c t = record { posts = c ∷ t.posts; state = t.state }
+-- this end, and then what a turn does
+abbrev pub ending : {W : Type 0} → EntryEnd → Outturn W → Outturn W
+ending e t = record { ends = e ∷ t.ends; state = t.state }
 
--- no post, in this state
+-- nothing settles, in this state
 abbrev pub stays : {W : Type 0} → State W → Outturn W
-stays a = record { posts = []; state = a }
+stays a = record { ends = []; state = a }
 
 -- the state once these are taken, in order
 abbrev pub take_all : {W : Type 0} → State W → List Taken → State W
@@ -173,23 +199,36 @@ module _ {W : Type 0} (m : Machine W) where
   abbrev pub completion_of : Taken → Answer W → Completion
   completion_of t a = record { user_data = t.entry.user_data; result = a.result; flags = 0; big = 0 ∷ 0 ∷ []; loan = m.back t a.result a.buf }
 
-  -- this completion is of the ready entry that the next choice names
+  -- whether the entry at a cursor is quiet and succeeds
+  abbrev pub is_quiet_end : W → Cursor → Bool
+  is_quiet_end w c = ends_quietly (job_of c.item.taken) (answer_to w c).result
+
+  -- this completion is of the ready entry that the next choice names, which doesn't end quietly
   pub record Settles (a : State W) (c : Completion) : Type 0 where
     pub cursor : Cursor
     pub chosen : named (choice a.choices) (cursors a) ≡ Some cursor
+    pub posts : is_quiet_end a.world cursor ≡ false
     pub completion : c ≡ completion_of cursor.item.taken (answer_to a.world cursor)
+
+  -- the ready entry that the next choice names has this number, and ends quietly
+  pub record SettlesQuietly (a : State W) (n : ℕ) : Type 0 where
+    pub cursor : Cursor
+    pub chosen : named (choice a.choices) (cursors a) ≡ Some cursor
+    pub quiet : is_quiet_end a.world cursor ≡ true
+    pub number : n ≡ cursor.item.taken.entry.user_data
 
   -- the state once the entry at a cursor is settled
   abbrev pub settled_by : State W → Cursor → State W
   settled_by a c = after_settle a c (answer_to a.world c)
 
-  -- These moves lead from a to b. A post with an even choice ends its turn; `over` says that the turn is over, so that the
+  -- These moves lead from a to b. A post at an even choice ends its turn; `over` says that the turn is over, so that the
   -- next move is a turn.
   abbrev pub Steps : Bool → State W → List Move → State W → Type 0
   Steps over a [] b = b ≡ a
   Steps over a (Turned p ∷ ms) b = Steps false a ms b
   Steps over a (Took t ∷ ms) b = (over ≡ false) × Steps false (after_take a t) ms b
   Steps over a (Posted c ∷ ms) b = (over ≡ false) × (s : Settles a c) × Steps (stops (choice a.choices)) (settled_by a s.cursor) ms b
+  Steps over a (Quieted n ∷ ms) b = (over ≡ false) × (s : SettlesQuietly a n) × Steps false (settled_by a s.cursor) ms b
 
   -- The moves of whole calls lead from the one state to the other, where it is told. Each call begins with a turn.
   abbrev pub IsServed : Option (State W) → List Move → Option (State W) → Type 0
@@ -197,16 +236,26 @@ module _ {W : Type 0} (m : Machine W) where
   IsServed (Some a) ms None = ¬ (Unit {0})
   IsServed (Some a) ms (Some b) = Steps true a ms b
 
-  -- the named entry settles, and `go` does the rest unless the choice ends the turn
-  abbrev pub settle_then : State W → (State W → Outturn W) → Option Cursor → Outturn W
-  settle_then a go None = stays a
-  settle_then a go (Some c) = posting (completion_of c.item.taken (answer_to a.world c)) (if stops (choice a.choices) then stays (settled_by a c) else go (settled_by a c))
+  -- how the entry at a cursor ends
+  abbrev pub end_of : W → Cursor → EntryEnd
+  end_of w c = if is_quiet_end w c then Quietly c.item.taken.entry.user_data else ByPost (completion_of c.item.taken (answer_to w c))
 
-  -- settlings one after another, while there is room and an entry is ready
-  abbrev pub settle_turn : ℕ → State W → Outturn W
-  settle_turn zero a = stays a
-  settle_turn (suc room) a = settle_then a (settle_turn room) (named (choice a.choices) (cursors a))
+  -- the named entry settles, and `go` does the rest with the room that is left, unless the turn ends
+  abbrev pub settle_then : State W → (ℕ → State W → Outturn W) → ℕ → Option Cursor → Outturn W
+  settle_then a go room None = stays a
+  settle_then a go room (Some c) =
+      ending (end_of a.world c) (if ends_turn (stops (choice a.choices)) (end_of a.world c) then stays (settled_by a c) else go (room_after room (end_of a.world c)) (settled_by a c))
+
+  -- settlings one after another, `left` at the most, while there is room and an entry is ready
+  abbrev pub settle_turn : (left room : ℕ) → State W → Outturn W
+  settle_turn zero room a = stays a
+  settle_turn (suc left) zero a = stays a
+  settle_turn (suc left) (suc room) a = settle_then a (settle_turn left) room (named (choice a.choices) (cursors a))
+
+  -- what settles in a turn, whatever is pending
+  abbrev pub settle_all : ℕ → State W → Outturn W
+  settle_all room a = settle_turn (length a.pending) room a
 
   -- a whole turn: these are taken, and what is ready settles within the room
   abbrev pub turn : List Taken → ℕ → State W → Outturn W
-  turn ts room a = settle_turn room (take_all a ts)
+  turn ts room a = settle_all room (take_all a ts)

@@ -28,19 +28,24 @@ pub enum JobKind {
     Cancel { job: u64 },
 }
 
-/// A job. A drained one settles when all before it have, and before all behind it.
+/// A job. A drained one settles when all before it have, and before all behind it. Nothing is
+/// posted for a quiet one that succeeds: the end of the next job tells of it. A quiet job is no
+/// read or write, has a link, and isn't the last.
 #[derive(Drop)]
 pub struct Job {
     pub kind: JobKind,
     pub drain: bool,
+    pub quiet: bool,
     pub link: Link,
 }
 
-/// What came of a job: its result, and the buffer of a read or write.
+/// What came of a job: its result, and the buffer of a read or write. It is quiet where nothing
+/// was posted for the job; its result is then 0.
 #[derive(Drop)]
 pub struct Outcome {
     pub result: i32,
     pub buf: Option<Buf>,
+    pub quiet: bool,
 }
 
 /// What came of a list of jobs: an outcome each, in their order, and the journal of the run.
@@ -63,7 +68,7 @@ pub enum RunFault {
     /// the loan isn't its own.
     #[error("partner posted for job {0} what was not due")]
     Stranger(u64),
-    /// Too many turns passed without a final post.
+    /// Too many turns passed with neither a take nor a final post.
     #[error("stalled")]
     Stalled,
     /// The partner failed, which its count of faults shows.

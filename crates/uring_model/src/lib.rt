@@ -22,7 +22,7 @@ mod settling;
 pub use files::Files;
 pub use jobs::{Job, JobKind, Link, Outcome, Report, RunFault};
 pub use machine::{Answered, MAX_FILE_LEN, perform};
-pub use operation::{Operation, has_link, has_soft_link, is_drained, operation_of};
+pub use operation::{Operation, has_link, has_soft_link, is_drained, is_quiet, operation_of};
 pub use pending::Pending;
 pub use replayed::{Replayed, replay};
 pub use rows::{Row, Settled, have_counts};

@@ -2,14 +2,12 @@
 
 ghost use Rattle.std.specs.Prelude.{◌≡◌, ◌↔◌, ◌++◌, ◌∷◌, [], None, IsTrue, IfOk, OnOk, option_map, replicate};
 ghost use Rattle.std.specs.List.{All};
-ghost use Rattle.std.specs.Ordering.{int_eq};
-ghost use Rattle.uring_model.specs.Jobs.{model_jobs, model_op, moves_bytes};
-ghost use Rattle.uring_model.specs.Replay.{replay, replay_event, take_job, post_at, place_of, last_unlinked, IsWhole};
-ghost use Rattle.uring_model.specs.Rows.{row_in, rows_in, state_in, state_if, table_told, outcomes_told, AreCounted, HasCount};
+ghost use Rattle.uring_model.specs.Jobs.{model_job, model_jobs, model_op, moves_bytes, ends_quietly};
+ghost use Rattle.uring_model.specs.Replay.{replay, replay_event, take_job, settle_at, place_of, last_unlinked, IsWhole};
+ghost use Rattle.uring_model.specs.Rows.{row_in, rows_in, state_in, state_if, table_told, outcomes_told, told_by, AreCounted, HasCount};
 
 use crate::files::Files;
 use crate::jobs::{Job, JobKind, Link, Outcome};
-use crate::machine::Answered;
 use crate::rows::{Row, Settled, all_done, mark, may_settle};
 use crate::settling::settle;
 use std::alloc::{AllocError, Global};
@@ -22,6 +20,13 @@ pub struct Replayed {
     pub files: Files,
     pub rows: Vec<Row>,
     pub rest: VecDeque<Job>,
+}
+
+/// How an event tells that a job settled: by a post of this result, or by none.
+#[derive(Clone, Copy)]
+enum Telling {
+    ByPost(i32),
+    Quietly,
 }
 
 /// What a journal of these jobs leads to, event by event. It is none where one of the events
@@ -81,8 +86,9 @@ impl Replayed {
                 job,
                 result: outcome,
                 fin: true,
-            } => self.post(alloc, job, outcome),
+            } => self.settle_row(alloc, job, Telling::ByPost(outcome)),
             Event::Post { fin: false, .. } => Ok(false),
+            Event::Quiet(job) => self.settle_row(alloc, job, Telling::Quietly),
         }
     }
 
@@ -105,9 +111,14 @@ impl Replayed {
         Ok(true)
     }
 
-    fn post(&mut self, alloc: Global, number: u64, outcome: i32) -> Result<bool, AllocError>
+    fn settle_row(
+        &mut self,
+        alloc: Global,
+        number: u64,
+        telling: Telling,
+    ) -> Result<bool, AllocError>
         requires { AreCounted self.old }
-        ensures state { IfOk result (λ went. state_if went self.new ≡ post_at (state_in self.old) outcome (place_of [] (rows_in self.old.rows.items) number)) }
+        ensures state { IfOk result (λ went. state_if went self.new ≡ settle_at (state_in self.old) (told_by telling) (place_of [] (rows_in self.old.rows.items) number)) }
         ensures counts { OnOk result (AreCounted self.new) }
     {
         let place = number as usize;
@@ -121,12 +132,12 @@ impl Replayed {
             return Ok(false);
         }
         let settling = settle(alloc, &mut self.files, before, row, &rows[place + 1..])?;
-        if !is_result(settling.answered, outcome) {
+        if !tells(telling, &row.job, settling.answered.result) {
             return Ok(false);
         }
         let marks = settling.answered.marks;
         self.rows[place].outcome = Some(Settled {
-            result: outcome,
+            result: settling.answered.result,
             buf: settling.buf,
         });
         mark(&mut self.rows, marks);
@@ -134,10 +145,21 @@ impl Replayed {
     }
 }
 
-fn is_result(answered: Answered, outcome: i32) -> bool
-    ensures { result ≡ int_eq answered.result outcome }
+/// Whether an event tells so that the job settled with this result.
+fn tells(telling: Telling, job: &Job, answer: i32) -> bool
+    ensures { result ≡ told_by telling (model_job job.now) answer }
 {
-    answered.result == outcome
+    match telling {
+        Telling::ByPost(posted) => answer == posted && !ends_quietly(job, posted),
+        Telling::Quietly => ends_quietly(job, answer),
+    }
+}
+
+/// Whether nothing is posted for the job where this is its result.
+fn ends_quietly(job: &Job, answer: i32) -> bool
+    ensures { result ≡ ends_quietly (model_job job.now) answer }
+{
+    job.quiet && answer >= 0
 }
 
 fn row_outcome(row: Row) -> Option<Outcome>
@@ -153,9 +175,11 @@ fn row_outcome(row: Row) -> Option<Outcome>
     } else {
         None
     };
+    let quiet = ends_quietly(&job, answer);
     Some(Outcome {
         result: answer,
         buf,
+        quiet,
     })
 }
 
