@@ -53,17 +53,17 @@ pub record IsTurnOver {W : Type 0} (m : Machine W) (a : State W) (known space : 
   pub room : ℕ
   pub takes : known ≤ length ts
   pub fits : space ≤ room
-  pub moves : ms ≡ moves_of_turn (length ts) ts (turn m ts room a).posts
+  pub moves : ms ≡ moves_of_turn (length ts) ts (turn m ts room a).ends
   pub told : IfSome lists (λ l. turn m ts room a ≡ turn m ts (room_of l) a)
 
 abbrev pub IsFullTurn : {W : Type 0} → Machine W → Option (State W) → ℕ → ℕ → Option Lists → List Move → Type 0
 IsFullTurn m None known space lists ms = Unit {0}
 IsFullTurn m (Some a) known space lists ms = IsTurnOver m a known space lists ms
 
--- Where state and lists are told, a whole turn takes what its number says and posts what the room at entry lets it.
+-- Where state and lists are told, a whole turn takes what its number says and settles what the room at entry lets it.
 pub record IsTurnOf {W : Type 0} (m : Machine W) (a : State W) (l : Lists) (ms : List Move) : Type 0 where
   pub ts : List Taken
-  pub moves : ms ≡ moves_of_turn (length ts) ts (turn m ts (room_of l) a).posts
+  pub moves : ms ≡ moves_of_turn (length ts) ts (turn m ts (room_of l) a).ends
 
 abbrev pub IsWholeTurn : {W : Type 0} → Machine W → Option (State W) → Option Lists → List Move → Type 0
 IsWholeTurn m (Some a) (Some l) ms = IsTurnOf m a l ms

@@ -6,8 +6,7 @@ use Rattle.std.proofs.lemmas.List.{drop_more}
 use Rattle.uring_base.specs.declared.buffer.Loan.{Loan}
 use Rattle.uring_base.specs.declared.events.Taken.{Taken}
 use Rattle.uring_base.specs.declared.events.Completion.{Completion}
-use Rattle.uring_model.specs.Moves.{Turned, Took, Posted, posted}
-use Rattle.uring_model.proofs.Joins.{took_turn, posted_turn}
+use Rattle.uring_model.specs.Moves.{Turned, Took, Posted, took, posted, quieted}
 use Rattle.ring_traits.specs.Lists.{Lists, Moves, WhereTold}
 use Rattle.uring_partner.specs.declared.hostile.HostilePartner.{HostilePartner}
 use Rattle.uring_partner.specs.declared.hostile.LoanPlan.{LoanPlan}
@@ -15,7 +14,8 @@ use Rattle.uring_partner.specs.declared.hostile.Scripted.{Scripted}
 use Rattle.uring_partner.specs.declared.hostile.Scripted.TheVariants.{Turn, Post}
 use Rattle.uring_partner.specs.Logs.{script_left, loans_held}
 use Rattle.uring_partner.specs.Script.{Plays, EndsAt, IsFilled, PlaysUpTo, PlaysTurn, completion_by, left_held, loans_of}
-use Rattle.uring_partner.proofs.Turns.{posted_takes, room_kept, took_count}
+use Rattle.uring_partner.proofs.Turns.{posted_takes, room_kept}
+use Rattle.uring_partner.proofs.Logged.{by_posts, posted_by, took_by, took_count_by}
 
 -- the item in front of what is left
 pub item_left : (script : List Scripted) (used : ℕ) (read item : Scripted) → used < length script → read ≡ get_or script used read → read ≡ item → drop used script ≡ item ∷ drop (used + 1) script
@@ -57,23 +57,32 @@ loans_more (u ∷ ts) t = ap (cons_option u.loan) (loans_more ts t) ∙ cons_app
 pub held_more : (held mid left : List Loan) (ts : List Taken) (t : Taken) → mid ≡ held ++ loans_of ts → left ≡ mid ++ option_to_list t.loan → left ≡ held ++ loans_of (ts ++ t ∷ [])
 held_more held mid left ts t e f = f ∙ ap (λ ls. ls ++ option_to_list t.loan) e ∙ append_assoc held (loans_of ts) (option_to_list t.loan) ∙ ap (λ ls. held ++ ls) (sym (loans_more ts t))
 
+none_quiet : (ts : List Taken) (cs : List Completion) → quieted (map Took ts ++ map Posted cs) ≡ []
+none_quiet [] [] = refl
+none_quiet [] (c ∷ cs) = none_quiet [] cs
+none_quiet (t ∷ ts) cs = none_quiet ts cs
+
 -- a call whose takes are held, and whose posts are then those of the script
 pub plays_to : (old mid new : HostilePartner) (p : ℕ) (ts : List Taken) (cs : List Completion) (rest : List Scripted) → script_left mid ≡ script_left old → loans_held mid ≡ loans_held old ++ loans_of ts
     → Plays (script_left mid) (loans_held mid) cs rest (loans_held new) → PlaysUpTo rest old new (Turned p ∷ (map Took ts ++ map Posted cs))
 plays_to old mid new p ts cs rest e f h =
-    let from : Plays (script_left old) (loans_held old ++ loans_of ts) cs rest (loans_held new) = subst (λ ls. Plays (script_left old) ls cs rest (loans_held new)) f (subst (λ s. Plays s (loans_held mid) cs rest (loans_held new)) e h) in
-    subst (λ us. Plays (script_left old) (loans_held old ++ loans_of us) (posted (map Took ts ++ map Posted cs)) rest (loans_held new)) (sym (took_turn ts cs))
-    (subst (λ ds. Plays (script_left old) (loans_held old ++ loans_of ts) ds rest (loans_held new)) (sym (posted_turn ts cs)) from)
+    let from : Plays (script_left old) (loans_held old ++ loans_of ts) cs rest (loans_held new) = subst (λ ls. Plays (script_left old) ls cs rest (loans_held new)) f (subst (λ s. Plays s (loans_held mid) cs rest (loans_held new)) e h) in (
+      subst (λ us. Plays (script_left old) (loans_held old ++ loans_of us) (posted (map Took ts ++ map Posted cs)) rest (loans_held new)) (sym (took_by ts cs))
+          (subst (λ ds. Plays (script_left old) (loans_held old ++ loans_of ts) ds rest (loans_held new)) (sym (posted_by ts cs)) from),
+      none_quiet ts cs,
+    )
 
 -- the same, where it took all of its number and posted to an end
 pub plays_turn : (known space p : ℕ) (lists : Option Lists) (old new : HostilePartner) (ts : List Taken) (cs : List Completion) (rest : List Scripted) → length ts ≡ p → known ≤ p
     → PlaysUpTo rest old new (Turned p ∷ (map Took ts ++ map Posted cs)) → EndsAt rest (script_left new) (IsFilled space lists (length cs)) → PlaysTurn known space lists old new (Turned p ∷ (map Took ts ++ map Posted cs))
 plays_turn known space p lists old new ts cs rest e k h q = record {
-  takes = omega (arith, e, k, ap length (took_turn ts cs));
-  moves = λ i. Turned (took_count p ts cs e i) ∷ (map Took (sym (took_turn ts cs) i) ++ map Posted (sym (posted_turn ts cs) i));
+  takes = omega (arith, e, k, ap length (took_by ts cs));
+  moves =
+      (λ i. Turned (took_count_by p ts cs e i) ∷ (map Took (sym (took_by ts cs) i) ++ map Posted (sym (posted_by ts cs) i)))
+      ∙ ap (λ ms. Turned (length (took (map Took ts ++ map Posted cs))) ∷ (map Took (took (map Took ts ++ map Posted cs)) ++ ms)) (sym (by_posts (posted (map Took ts ++ map Posted cs))));
   rest = rest;
   plays = h;
-  ends = subst (λ ds. EndsAt rest (script_left new) (IsFilled space lists (length ds))) (sym (posted_turn ts cs)) q;
+  ends = subst (λ ds. EndsAt rest (script_left new) (IsFilled space lists (length ds))) (sym (posted_by ts cs)) q;
 }
 
 -- the side is as full before the takes of a turn as after them

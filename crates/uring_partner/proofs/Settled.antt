@@ -1,16 +1,29 @@
 -- The code's settling is the one that the next choice names.
-use Rattle.std.specs.Prelude.{◌≡◌, ℕ, Bool, List, [], ◌∷◌, ◌++◌, length, drop, ℤ, Option, Some}
+use Rattle.std.specs.Prelude.{◌≡◌, ℕ, Bool, ◌&&◌, if◌then◌else◌, List, [], ◌∷◌, ◌++◌, length, drop, ℤ, Option, Some, None, is_none, refl}
 use Rattle.std.specs.List.{remove}
 use Rattle.std.proofs.Common.{ap, ◌∙◌}
+use Rattle.uring_base.specs.declared.buffer.Loan.{Loan}
+use Rattle.uring_base.specs.FlagBits.{has_flags}
+use Rattle.uring_base.specs.declared.flags.TheConstants.Flags.{SKIP_SUCCESS}
 use Rattle.uring_base.specs.Loans.{with_part}
 use Rattle.uring_model.specs.declared.pending.Pending.{Pending}
 use Rattle.uring_model.specs.Machine.{Files}
-use Rattle.uring_model.specs.Jobs.{linked}
+use Rattle.uring_model.specs.Jobs.{linked, is_success}
 use Rattle.uring_model.specs.Replay.{cuts}
 use Rattle.uring_model.specs.Chosen.{choice}
-use Rattle.uring_model.specs.Partner.{PartnerState, Cursor, job_of, named, cursors, answer_to, after_settle, mark_first_if, pass, pass_end, Settles}
-use Rattle.uring_partner.specs.Settling.{answered_among, settled_item}
+use Rattle.uring_model.specs.Partner.{PartnerState, Cursor, job_of, named, cursors, answer_to, mark_first_if, pass, pass_end}
+use Rattle.uring_model.specs.Turn.{ByPost, Quietly}
+use Rattle.uring_partner.specs.Settling.{answered_among, settled_item, ends_as, SettlesAs}
 use Rattle.uring_partner.proofs.Marks.{Removes, answer_here}
+
+-- an answer leaves an entry quiet that was
+
+none_kept : (loan : Option Loan) (part : List ℕ) → is_none (with_part loan part) ≡ is_none loan
+none_kept None part = refl
+none_kept (Some loan) part = refl
+
+quiet_kept : (i : Pending) (part : List ℕ) → (job_of (settled_item i part).taken).quiet ≡ (job_of i.taken).quiet
+quiet_kept i part = ap (λ b. has_flags i.taken.entry.flags SKIP_SUCCESS && b) (none_kept i.taken.loan part)
 
 pub code_settles : (a : PartnerState) (c : Cursor) (k : ℕ) (x : Pending) (rest : List Pending) (after : Pending) (r : ℤ) (o : Option ℕ) (b l : Bool) (f : Files) (told pend : List Pending) (end : Option Bool) (cs : List ℕ)
     → named (choice a.choices) (cursors a) ≡ Some c → length c.front ≡ k → Removes a.pending c k → x ≡ c.item → rest ≡ remove a.pending k
@@ -20,7 +33,7 @@ pub code_settles : (a : PartnerState) (c : Cursor) (k : ℕ) (x : Pending) (rest
     → ((front back : List Pending) → rest ≡ front ++ back → length front ≡ k → told ≡ front ++ pass l b back)
     → ((front back : List Pending) → rest ≡ front ++ back → length front ≡ k → end ≡ pass_end l b back a.tail)
     → pend ≡ mark_first_if o told → cs ≡ drop 1 a.choices
-    → (s : Settles a (record { user_data = after.taken.entry.user_data; result = r; flags = 0; big = 0 ∷ 0 ∷ []; loan = after.taken.loan })) × (◌≡◌ {A = PartnerState} (record { world = f; pending = pend; tail = end; choices = cs }) (after_settle a s.cursor (answer_to a.world s.cursor)))
+    → SettlesAs a (ends_as after.taken r) (record { world = f; pending = pend; tail = end; choices = cs })
 code_settles a c k x rest after r o b l f told pend end cs chosen front m item out res marks cut files same link passed ended marked used =
     let others : rest ≡ c.front ++ c.back = out ∙ m.rest in
     let y : answered_among a.world rest x ≡ answer_to a.world c = (λ i. answered_among a.world (others i) (item i)) ∙ answer_here a.world c in
@@ -36,11 +49,11 @@ code_settles a c k x rest after r o b l f told pend end cs chosen front m item o
     marked ∙ ap (mark_first_if o) seen ∙ (λ i. mark_first_if (mark i) (c.front ++ pass (links i) (cuts_is i) c.back)) in
     let ends : end ≡ pass_end (linked (job_of c.item.taken).link) (cuts c.item.cut (job_of c.item.taken) (answer_to a.world c).result) c.back a.tail =
     last ∙ (λ i. pass_end (links i) (cuts_is i) c.back a.tail) in
-    let made : f ≡ (answer_to a.world c).world = files ∙ ap (λ z. z.world) y in (
-      record {
-        cursor = c;
-        chosen = chosen;
-        completion = λ i. record { user_data = number i; result = result i; flags = 0; big = 0 ∷ 0 ∷ []; loan = bytes i };
-      },
-      λ i. record { world = made i; pending = all i; tail = ends i; choices = used i },
-    )
+    let made : f ≡ (answer_to a.world c).world = files ∙ ap (λ z. z.world) y in
+    let quiet : (job_of after.taken).quiet ≡ (job_of c.item.taken).quiet = ap (λ t. (job_of t.taken).quiet) same ∙ quiet_kept x (answered_among a.world rest x).buf ∙ ap (λ z. (job_of z.taken).quiet) item in
+    record {
+      cursor = c;
+      chosen = chosen;
+      ends = λ i. if quiet i && is_success (result i) then Quietly (number i) else ByPost (record { user_data = number i; result = result i; flags = 0; big = 0 ∷ 0 ∷ []; loan = bytes i });
+      state = λ i. record { world = made i; pending = all i; tail = ends i; choices = used i };
+    }

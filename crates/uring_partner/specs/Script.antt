@@ -1,11 +1,12 @@
 -- What a hostile partner's script asks for, and what a call makes of it.
-use Rattle.std.specs.Prelude.{◌≡◌, ℕ, ◌≤◌, ◌==◌, ◌++◌, Bool, true, false, ℤ, List, [], ◌∷◌, length, position, remove, slice_get, filter_map, Option, Some, None, IfSome, option_and_then}
+use Rattle.std.specs.Prelude.{◌≡◌, ℕ, ◌≤◌, ◌==◌, ◌++◌, Bool, true, false, ℤ, List, [], ◌∷◌, length, map, position, remove, slice_get, filter_map, Option, Some, None, IfSome, option_and_then}
 use Rattle.std.specs.Option.{option_map_or}
 use Rattle.uring_base.specs.declared.buffer.Loan.{Loan}
 use Rattle.uring_base.specs.declared.events.Taken.{Taken}
 use Rattle.uring_base.specs.declared.events.Completion.{Completion}
-use Rattle.uring_model.specs.Moves.{Move, took, posted}
+use Rattle.uring_model.specs.Moves.{Move, took, posted, quieted}
 use Rattle.uring_model.specs.Progress.{moves_of_turn}
+use Rattle.uring_model.specs.Turn.{ByPost}
 use Rattle.ring_traits.specs.Lists.{Lists, room_of}
 use Rattle.uring_partner.specs.declared.hostile.HostilePartner.{HostilePartner}
 use Rattle.uring_partner.specs.declared.hostile.LoanPlan.{LoanPlan}
@@ -59,15 +60,15 @@ EndsAt (Post user_data result flags plan ∷ rest) left filled = (left ≡ Post 
 abbrev pub loans_of : List Taken → List Loan
 loans_of ts = filter_map (λ t. t.loan) ts
 
--- what was taken is held, the posts are those of the script, and this rest of it is left
+-- what was taken is held, the posts are those of the script, and this rest of it is left; nothing ended quietly
 abbrev pub PlaysUpTo : List Scripted → HostilePartner → HostilePartner → List Move → Type 0
-PlaysUpTo rest old new ms = Plays (script_left old) (loans_held old ++ loans_of (took ms)) (posted ms) rest (loans_held new)
+PlaysUpTo rest old new ms = Plays (script_left old) (loans_held old ++ loans_of (took ms)) (posted ms) rest (loans_held new) × (quieted ms ≡ [])
 
 -- A whole turn: it takes at least what was known to wait and to be asked for, then posts up to where the script ends the turn
 -- or the side is filled.
 pub record PlaysTurn (known space : ℕ) (lists : Option Lists) (old new : HostilePartner) (ms : List Move) : Type 0 where
   pub takes : known ≤ length (took ms)
-  pub moves : ms ≡ moves_of_turn (length (took ms)) (took ms) (posted ms)
+  pub moves : ms ≡ moves_of_turn (length (took ms)) (took ms) (map ByPost (posted ms))
   pub rest : List Scripted
   pub plays : PlaysUpTo rest old new ms
   pub ends : EndsAt rest (script_left new) (IsFilled space lists (length (posted ms)))

@@ -1,10 +1,16 @@
--- One settling, as the code does it: the entry that settles is out, and the others are one list.
-use Rattle.std.specs.Prelude.{ℕ, ◌||◌, if◌then◌else◌, List, length, Option, Some, None}
+-- One settling, as the code does it: the entry that settles is out, and the others are one list. Then all of a turn.
+use Rattle.std.specs.Prelude.{◌≡◌, ℕ, ◌≤◌, ◌||◌, if◌then◌else◌, ℤ, List, [], ◌∷◌, length, Option, Some, None, IfSome}
 use Rattle.uring_base.specs.declared.buffer.Loan.{Loan}
+use Rattle.uring_base.specs.declared.events.Taken.{Taken}
+use Rattle.uring_base.specs.declared.events.Completion.{Completion}
 use Rattle.uring_base.specs.Loans.{with_part}
 use Rattle.uring_model.specs.declared.pending.Pending.{Pending}
+use Rattle.uring_model.specs.Chosen.{choice}
+use Rattle.uring_model.specs.Jobs.{ends_quietly}
 use Rattle.uring_model.specs.Machine.{Files, FileAnswer, step, canceled}
-use Rattle.uring_model.specs.Partner.{job_of, has_unmarked}
+use Rattle.uring_model.specs.Partner.{PartnerState, Cursor, job_of, has_unmarked, named, cursors}
+use Rattle.uring_model.specs.Turn.{EntryEnd, ByPost, Quietly, end_of, settled_by, settle_all}
+use Rattle.ring_traits.specs.Lists.{Lists, room_of}
 
 -- what an entry is answered among the others
 abbrev pub answered_among : Files → List Pending → Pending → FileAnswer
@@ -20,3 +26,27 @@ settled_item i part = record { taken = record i.taken { loan = with_part i.taken
 abbrev pub bare : Option Loan → Option (ℕ × ℕ × ℕ)
 bare None = None
 bare (Some loan) = Some (loan.number, loan.from, length loan.buf)
+
+-- how an entry ends that has this result, and whose loan has its bytes
+abbrev pub ends_as : Taken → ℤ → EntryEnd
+ends_as t r = if ends_quietly (job_of t) r then Quietly t.entry.user_data else ByPost (record { user_data = t.entry.user_data; result = r; flags = 0; big = 0 ∷ 0 ∷ []; loan = t.loan })
+
+-- what is posted at such an end
+abbrev pub post_of : EntryEnd → Option Completion
+post_of (ByPost c) = Some c
+post_of (Quietly n) = None
+
+-- the ready entry that the next choice names ends so, which leaves this state
+pub record SettlesAs (a : PartnerState) (e : EntryEnd) (b : PartnerState) : Type 0 where
+  pub cursor : Cursor
+  pub chosen : named (choice a.choices) (cursors a) ≡ Some cursor
+  pub ends : e ≡ end_of a.world cursor
+  pub state : b ≡ settled_by a cursor
+
+-- These are the ends of all that settles, with at least the room that was known; where the lists are told, as with the room
+-- that they have.
+pub record SettlesAll (space : ℕ) (lists : Option Lists) (a : PartnerState) (es : List EntryEnd) : Type 0 where
+  pub room : ℕ
+  pub fits : space ≤ room
+  pub ends : es ≡ (settle_all room a).ends
+  pub told : IfSome lists (λ l. settle_all room a ≡ settle_all (room_of l) a)

@@ -2,6 +2,7 @@
 #![tactic(auto)]
 
 mod chain;
+mod ending;
 mod hostile;
 mod logging;
 mod memory;

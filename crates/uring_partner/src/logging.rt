@@ -34,5 +34,6 @@ pub fn event_at(log: &Vec<LogEvent>, place: usize) -> Event
             result: *result,
             fin: *fin,
         },
+        LogEvent::Quiet(job) => Event::Quiet(*job),
     }
 }

@@ -2,6 +2,7 @@
 
 ghost use Rattle.std.specs.Prelude.{◌≡◌, ◌+◌, ◌<◌, ◌≤◌, [], ◌∷◌, true};
 
+use crate::ending::ending_of;
 use crate::logging::{event_at, push_known};
 use crate::pending_list::PendingList;
 use crate::plan::pass_enter;
@@ -12,7 +13,7 @@ use ring_traits::PartnerSide;
 use std::alloc::{AllocError, Global};
 use std::collections::VecDeque;
 use uring_base::errno::EIO;
-use uring_base::{Buf, Completion, Event, Loan, LogEvent};
+use uring_base::{Buf, Completion, Event, LogEvent};
 use uring_model::{Files, Pending, has_link};
 
 /// The choice once the choices have run out: the entry in front of the ready ones settles, and the
@@ -22,8 +23,9 @@ const IN_ORDER: u32 = 1;
 /// A partner that keeps its files in memory, and tells all that it does.
 ///
 /// A turn takes entries, and settles those that are ready while the side has room. Which of the
-/// ready ones settles next, and whether the turn goes on after it, its next choice says; once the
-/// choices have run out, they settle in the order of their taking.
+/// ready ones settles next, and whether the turn goes on after its post, its next choice says; once
+/// the choices have run out, they settle in the order of their taking. A quiet entry that succeeds
+/// posts nothing, and the turn goes on after it.
 #[derive(Drop)]
 pub struct MemoryPartner {
     files: Files,
@@ -38,17 +40,17 @@ pub struct MemoryPartner {
 }
 
 impl MemoryPartner {
-    ghost use Rattle.std.specs.Prelude.{◌≡◌, ◌+◌, ◌<◌, ◌≤◌, ◌↔◌, ◌++◌, ◌∷◌, [], ℕ, List, length, map, min, Option, Some, option_copied, option_map, IfErr, IfOk, IfSome, IsTrue, OnOk, OnErr, is_ok, vec_len, vec_capacity};
+    ghost use Rattle.std.specs.Prelude.{◌≡◌, ◌+◌, ◌<◌, ◌≤◌, ◌↔◌, ◌++◌, ◌∷◌, [], ℕ, false, List, length, map, min, Option, Some, option_copied, option_map, IfErr, IfOk, IfSome, IsTrue, OnOk, OnErr, is_ok, vec_len, vec_capacity};
     ghost use Rattle.std.specs.VecDeque.{deque_len, deque_capacity};
     ghost use Rattle.std.specs.FinMap as finite;
     ghost use Rattle.uring_base.specs.declared.events.Taken.{Taken};
-    ghost use Rattle.uring_model.specs.Chosen.{choice};
-    ghost use Rattle.uring_model.specs.Moves.{Move, Turned, Took, Posted, took, logged};
-    ghost use Rattle.uring_model.specs.Partner.{IsIdle, Settles, file_machine, after_settle, after_take, answer_to, idle};
-    ghost use Rattle.uring_model.specs.Turn.{settle_turn, take_all};
-    ghost use Rattle.ring_traits.specs.Lists.{room_of};
+    ghost use Rattle.uring_model.specs.Chosen.{choice, stops};
+    ghost use Rattle.uring_model.specs.Moves.{Move, Turned, Took, took, logged};
+    ghost use Rattle.uring_model.specs.Partner.{IsIdle, Steps, file_machine, after_take, idle};
+    ghost use Rattle.uring_model.specs.Turn.{EntryEnd, ended, ends_turn, posts_of, take_all};
     ghost use Rattle.partner_traits.specs.Calls.{Enters, IsCall, IsFullTurn};
     ghost use Rattle.uring_partner.specs.Parts.{GoesBy};
+    ghost use Rattle.uring_partner.specs.Settling.{SettlesAll, SettlesAs, post_of};
     ghost use Rattle.uring_partner.specs.Told.{state_of, told_state, told_log, told_plan, told_faults, told_errno};
 
     /// A partner without files, entries, choices or events.
@@ -196,11 +198,11 @@ impl MemoryPartner {
         Ok(())
     }
 
-    /// Settles the ready entry that the next choice names, and gives what is to be posted.
-    fn settle_next(&mut self, alloc: Global) -> Result<Completion, AllocError>
+    /// Settles the ready entry that the next choice names, and gives the completion that is to be
+    /// posted: none where the entry is quiet and succeeds.
+    fn settle_next(&mut self, alloc: Global) -> Result<Option<Completion>, AllocError>
         requires { 0 < deque_len self.old.pending.items }
-        ensures ok { IfOk result (λ c. (s : Settles (state_of self.old) c) × (state_of self.new ≡ after_settle (state_of self.old) s.cursor (answer_to self.old.files s.cursor))) }
-        ensures log { IfOk result (λ c. self.new.log.items ≡ self.old.log.items ++ logged (Posted c) ∷ []) }
+        ensures ok { IfOk result (λ post. (e : EntryEnd) × SettlesAs (state_of self.old) e (state_of self.new) × (post ≡ post_of e) × (self.new.log.items ≡ self.old.log.items ++ logged (ended e) ∷ [])) }
         ensures err { OnErr result ((state_of self.new ≡ state_of self.old) × (self.new.log.items ≡ self.old.log.items)) }
         ensures faults { self.new.faults ≡ self.old.faults }
         ensures plan { self.new.plan.items ≡ self.old.plan.items }
@@ -219,26 +221,49 @@ impl MemoryPartner {
                     .pass_on(&mut self.tail, place, is_linked, settlement.cut);
                 self.pending.mark_if(settlement.answered.marks);
                 let _used = self.choices.pop_front();
-                let job = item.taken.entry.user_data;
-                let outcome = settlement.answered.result;
-                push_known(&mut self.log, final_post(job, outcome, settlement.copy));
-                Ok(final_completion(job, outcome, item.taken.loan))
+                let ending = ending_of(item.taken, settlement.answered.result, settlement.copy);
+                push_known(&mut self.log, ending.event);
+                Ok(ending.post)
             }
         }
     }
 
-    /// Settles while anything is pending and the side has room, until an even choice.
+    /// Settles the ready entry that the next choice names, and posts its completion, if it has one.
+    /// Answers whether the turn is over: a post at an even choice ends it.
+    fn settle_one<Q: PartnerSide>(
+        &mut self,
+        alloc: Global,
+        side: &mut Q,
+    ) -> Result<bool, AllocError>
+        requires pending { 0 < deque_len self.old.pending.items }
+        requires room { 0 < Q.space side.old }
+        ensures ok { IfOk result (λ over. (e : EntryEnd) × SettlesAs (state_of self.old) e (state_of self.new)
+            × GoesBy Q.moved self.old self.new side.old side.new (ended e ∷ [])
+            × (over ≡ ends_turn (stops (choice self.old.choices.items)) e)
+            × (Q.space side.old ≤ Q.space side.new + length (posts_of (e ∷ [])))) }
+        ensures err { OnErr result (GoesBy Q.moved self.old self.new side.old side.new [] × (state_of self.new ≡ state_of self.old)) }
+    {
+        let choice = self.next_choice();
+        match self.settle_next(alloc)? {
+            None => Ok(false),
+            Some(completion) => {
+                post_known(side, completion);
+                Ok(choice % 2 == 0)
+            }
+        }
+    }
+
+    /// Settles while anything is pending and the side has room, until a post at an even choice.
     fn settle_all<Q: PartnerSide>(&mut self, alloc: Global, side: &mut Q) -> Result<(), AllocError>
-        ensures moves { (n : ℕ) × GoesBy Q.moved self.old self.new side.old side.new (map Posted (settle_turn n (state_of self.old)).posts) × (state_of self.new ≡ (settle_turn n (state_of self.old)).state) × OnOk result ((Q.space side.old ≤ n) × IfSome (Q.lists side.old) (λ l. settle_turn n (state_of self.old) ≡ settle_turn (room_of l) (state_of self.old))) }
+        ensures moves { (es : List EntryEnd) × GoesBy Q.moved self.old self.new side.old side.new (map ended es)
+            × Steps false (state_of self.old) (map ended es) (state_of self.new)
+            × OnOk result (SettlesAll (Q.space side.old) (Q.lists side.old) (state_of self.old) es) }
     {
         while !self.pending.items.is_empty() {
             if side.room() == 0 {
                 return Ok(());
             }
-            let choice = self.next_choice();
-            let completion = self.settle_next(alloc)?;
-            post_known(side, completion);
-            if choice % 2 == 0 {
+            if self.settle_one(alloc, side)? {
                 return Ok(());
             }
         }
@@ -263,31 +288,6 @@ impl MemoryPartner {
         self.take_all(side, turn)?;
         self.settle_all(alloc, side)?;
         Ok(turn)
-    }
-}
-
-/// The log's event of a job's only post.
-fn final_post(job: u64, outcome: i32, loan: Option<Loan>) -> LogEvent
-    ensures { result ≡ LogEvent.Post job outcome true loan }
-{
-    LogEvent::Post {
-        job,
-        result: outcome,
-        fin: true,
-        loan,
-    }
-}
-
-/// The only completion of a job, without flags.
-fn final_completion(job: u64, outcome: i32, loan: Option<Loan>) -> Completion
-    ensures { result ≡ record { user_data = job; result = outcome; flags = 0; big = 0 ∷ 0 ∷ []; loan = loan } }
-{
-    Completion {
-        user_data: job,
-        result: outcome,
-        flags: 0,
-        big: [0, 0],
-        loan,
     }
 }
 

@@ -14,6 +14,8 @@ use uring_base::Buf;
 
 /// The longest input that `read_all` reads, in bytes.
 pub const INPUT_LIMIT: usize = 16_777_216;
+/// How many bytes are asked of a source at a time.
+const PIECE_LEN: usize = 4096;
 
 /// Why an input wasn't read.
 #[derive(Clone, Copy, Debug, PartialEq, Eq, Error)]
@@ -68,7 +70,7 @@ pub fn read_all<S: Source>(alloc: Global, source: &mut S) -> Result<Buf, InputFa
     ensures later { S.faults source.old ≤ S.faults source.new }
 {
     let mut bytes = Vec::new(alloc);
-    let mut piece = [0; 4096];
+    let mut piece = [0; PIECE_LEN];
     loop {
         let count = source.read(&mut piece)?;
         if count == 0 {

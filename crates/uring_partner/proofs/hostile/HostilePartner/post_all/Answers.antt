@@ -7,9 +7,8 @@ use Rattle.uring_partner.specs.declared.hostile.Scripted.TheVariants.{Turn, Post
 use Rattle.uring_model.specs.Moves.{Posted}
 use Rattle.uring_partner.specs.Logs.{LogsBy, script_left, loans_held}
 use Rattle.uring_partner.specs.Script.{completion_by}
-use Rattle.uring_partner.proofs.Logged.{logs_posted, logs_nil, logs_side}
+use Rattle.uring_partner.proofs.Logged.{logs_posted, logs_nil, logs_side, room_filled}
 use Rattle.uring_partner.proofs.Played.{item_left, plays_as, plays_more}
-use Rattle.uring_partner.proofs.Turns.{room_gone_by}
 use Rattle.uring_partner.proofs.hostile.HostilePartner.post_all.Goals as goal
 
 pub loop-self-init : goal.loop-self-init
@@ -30,7 +29,7 @@ returns-then-room-eq0 g c =
     let count : vec_len p.script ≡ length p.script.items = search rules in
     let left = item_left p.script.items p.used c.index.result.now (Post c.in-Post.user_data c.in-Post.result c.in-Post.flags c.in-Post.loan) (omega (arith, count)) c.index.ensures c.in-Post.is in
     let w = g.met.Q.PartnerSide.moved_told _ _ _ _ s.1.sides in
-    let told = room_gone_by _ _ _ s.0 w (g.Q.Rings.fits c.loop-self.side) c.room.result c.if-room-eq0.true c.room.ensures.told in
+    let told = room_filled _ _ _ s.0 c.room.result w (g.Q.Rings.fits c.loop-self.side) c.if-room-eq0.true c.room.ensures.told in
     record {
       moves = (
         s.0,
