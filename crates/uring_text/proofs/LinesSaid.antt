@@ -1,30 +1,39 @@
 -- What is read of a line is what it says.
-use Rattle.std.proofs.Common.{◌≡◌, ℕ, ◌+◌, ◌^◌, Bool, true, false, cond, List, [], ◌∷◌, length, get_or, Some, subst, refl, sym, ap, arith, inl, inr}
-use Rattle.std.specs.Prelude.{bytes_eq, codes, ◌==◌}
+use Rattle.std.proofs.Common.{◌≡◌, ℕ, ◌+◌, ◌^◌, true, false, cond, List, [], ◌∷◌, length, get_or, Some, None, subst, refl, sym, ap, arith, inl, inr}
+use Rattle.std.specs.Prelude.{Option, bytes_eq, codes, ◌==◌}
 use Rattle.std.proofs.lemmas.Bool.{eqb-true}
+use Rattle.uring_model.specs.declared.jobs.Job.{Job}
 use Rattle.uring_model.specs.declared.jobs.JobKind.{JobKind}
 use Rattle.uring_model.specs.declared.jobs.JobKind.TheVariants.{Nop, Read, Write, Fsync, Ftruncate, Cancel}
-use Rattle.uring_model.specs.declared.jobs.Link.{Link}
+use Rattle.uring_text.specs.declared.marks.Marks.{Marks}
 use Rattle.uring_text.specs.declared.script.Line.{Line}
 use Rattle.uring_text.specs.declared.script.Line.TheVariants as line
 use Rattle.uring_text.specs.declared.limits.TheConstants.{MAX_READ_BYTES}
 use Rattle.uring_text.specs.Lines.{fields_of, number_below, bytes_spelled}
-use Rattle.uring_text.specs.Script.{◌>>=◌, file_line, choose_line, marks_of, read_fields, write_fields, fsync_fields, truncate_fields, cancel_fields, job_fields, job_line, worded_line, line_says}
+use Rattle.uring_text.specs.Script.{◌>>=◌, file_line, choose_line, marks_of, read_fields, write_fields, fsync_fields, truncate_fields, cancel_fields, job_fields, is_well_marked, marked_job, job_line, worded_line, line_says}
 use Rattle.uring_text.specs.Grammar.{marks, KindSaid, FieldsSay, Says}
-use Rattle.uring_text.proofs.Found.{chosen, same_bytes, bound}
+use Rattle.uring_text.proofs.Found.{chosen, same_bytes, none_is_some, bound}
 use Rattle.uring_text.proofs.KindsSaid.{bytes_found, job_found, number_is, bytes_again}
-use Rattle.uring_text.proofs.MarksSaid.{marks_found, marks_again}
+use Rattle.uring_text.proofs.MarksSaid.{marks_found, marks_again, quiet_found, quiet_again}
 use Rattle.uring_text.proofs.Numbers.{number_found}
 use Rattle.uring_text.proofs.Pieces.{a_piece}
 use Rattle.uring_text.proofs.Steps.{there, some_is}
 
+-- what a job line tells of a job with these marks
+abbrev line_of : Job → Option Line
+line_of job = cond (is_well_marked job) (Some (line.Job job)) None
+
 job_line_found : (word : List ℕ) (fields : List (List ℕ)) (said : Line) → job_line word fields ≡ Some said → FieldsSay (word ∷ fields) said
 unfolding job_line
 job_line_found word fields said e =
-    bound (job_fields word fields) (λ x. marks_of x.1 >>= λ m. there (line.Job (record { kind = x.0; drain = m.0; link = m.1 }))) said e (λ x ex e1.
-    bound (marks_of x.1) (λ m. there (line.Job (record { kind = x.0; drain = m.0; link = m.1 }))) said e1 (λ m em e2.
-    subst (λ (l : Line). FieldsSay (word ∷ fields) l) (some_is (line.Job (record { kind = x.0; drain = m.0; link = m.1 })) said e2)
-    (subst (λ (ms : List (List ℕ)). KindSaid x.0 (word ∷ fields) ms) (marks_found x.1 m em) (job_found word fields x ex))))
+    bound (job_fields word fields) (λ x. marks_of x.1 >>= λ m. line_of (marked_job x.0 m)) said e (λ x ex e1.
+    bound (marks_of x.1) (λ m. line_of (marked_job x.0 m)) said e1 (λ m em e2.
+    let job = marked_job x.0 m in
+    elim (chosen (is_well_marked job) (there (line.Job job)) None (Some said) e2) [
+      | inl p ↦ subst (λ (l : Line). FieldsSay (word ∷ fields) l) (some_is (line.Job job) said p.1)
+          (subst (λ (ms : List (List ℕ)). KindSaid x.0 (word ∷ fields) ms) (marks_found x.0 x.1 m em) (job_found word fields x ex), quiet_found job p.0)
+      | inr p ↦ none_is_some said p.1
+    ]))
 
 file_found : (fields : List (List ℕ)) (said : Line) → file_line fields ≡ Some said → FieldsSay (codes "file" ∷ fields) said
 unfolding file_line
@@ -78,21 +87,22 @@ line_found (b ∷ more) said e =
 
 -- ---- and what is said so is read
 
-job_again : (kind : JobKind) (drain : Bool) (link : Link) (fields : List (List ℕ)) → KindSaid kind fields (marks drain link) → worded_line fields ≡ Some (line.Job (record { kind = kind; drain = drain; link = link }))
+-- the kind and the marks are read in turn
+job_again : (kind : JobKind) (fields : List (List ℕ)) (end : List (List ℕ)) (marks : Marks) → KindSaid kind fields end → marks_of end ≡ Some marks → is_well_marked (marked_job kind marks) ≡ true → worded_line fields ≡ Some (line.Job (marked_job kind marks))
 unfolding worded_line job_line job_fields read_fields write_fields fsync_fields truncate_fields cancel_fields
-job_again Nop drain link fields h = rw (h, marks_again drain link) refl
-job_again (Read n at buf) drain link fields h = rw h.0 (rw (number_is (2 ^ 32) n (omega arith) h.1, number_is (2 ^ 64) at (omega arith) h.2, number_is (MAX_READ_BYTES + 1) (length buf) (omega arith) (omega (arith, h.3)), marks_again drain link, ← h.4) refl)
-job_again (Write n at buf) drain link fields h = rw h.1 (rw (number_is (2 ^ 32) n (omega arith) h.2, number_is (2 ^ 64) at (omega arith) h.3, bytes_again h.0 buf h.4, marks_again drain link) refl)
-job_again (Fsync n) drain link fields h = rw h.0 (rw (number_is (2 ^ 32) n (omega arith) h.1, marks_again drain link) refl)
-job_again (Ftruncate n len) drain link fields h = rw h.0 (rw (number_is (2 ^ 32) n (omega arith) h.1, number_is (2 ^ 64) len (omega arith) h.2, marks_again drain link) refl)
-job_again (Cancel job) drain link fields h = rw h.0 (rw (number_is (2 ^ 64) job (omega arith) h.1, marks_again drain link) refl)
+job_again Nop fields end marks h read fits = rw (h, read, fits) refl
+job_again (Read n at buf) fields end marks h read fits = rw h.0 (rw (number_is (2 ^ 32) n (omega arith) h.1, number_is (2 ^ 64) at (omega arith) h.2, number_is (MAX_READ_BYTES + 1) (length buf) (omega arith) (omega (arith, h.3)), read, ← h.4, fits) refl)
+job_again (Write n at buf) fields end marks h read fits = rw h.1 (rw (number_is (2 ^ 32) n (omega arith) h.2, number_is (2 ^ 64) at (omega arith) h.3, bytes_again h.0 buf h.4, read, fits) refl)
+job_again (Fsync n) fields end marks h read fits = rw h.0 (rw (number_is (2 ^ 32) n (omega arith) h.1, read, fits) refl)
+job_again (Ftruncate n len) fields end marks h read fits = rw h.0 (rw (number_is (2 ^ 32) n (omega arith) h.1, number_is (2 ^ 64) len (omega arith) h.2, read, fits) refl)
+job_again (Cancel job) fields end marks h read fits = rw h.0 (rw (number_is (2 ^ 64) job (omega arith) h.1, read, fits) refl)
 
 fields_again : (fields : List (List ℕ)) (said : Line) → FieldsSay fields said → worded_line fields ≡ Some said
 unfolding worded_line file_line choose_line
 fields_again fields line.Blank h = absurd h
 fields_again fields (line.File seed) h = rw h.1 (rw (number_is (2 ^ 32) seed.number (omega arith) h.2, bytes_again h.0 seed.bytes h.3) refl)
 fields_again fields (line.Choose c) h = rw h.0 (rw (number_is (2 ^ 32) c (omega arith) h.1) refl)
-fields_again fields (line.Job job) h = job_again job.kind job.drain job.link fields h
+fields_again fields (line.Job job) h = job_again job.kind fields (marks job) (record { drain = job.drain; quiet = job.quiet; link = job.link }) h.0 (marks_again job.kind job.drain job.quiet job.link) (quiet_again job h.1)
 
 -- the first byte of the first field
 abbrev head : List (List ℕ) → ℕ
@@ -110,7 +120,7 @@ no_word : (said : Line) (fields : List (List ℕ)) → head fields ≡ 35 → Fi
 no_word line.Blank fields s h = h
 no_word (line.File seed) fields s h = omega (arith, ap head h.1)
 no_word (line.Choose c) fields s h = omega (arith, ap head h.0)
-no_word (line.Job job) fields s h = no_kind job.kind fields (marks job.drain job.link) s h
+no_word (line.Job job) fields s h = no_kind job.kind fields (marks job) s h.0
 
 -- the fields of a comment begin with its sign, and so with no word
 no_comment : (more : List ℕ) (said : Line) → FieldsSay (fields_of (35 ∷ more)) said → ⊥

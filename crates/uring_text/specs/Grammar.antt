@@ -1,10 +1,12 @@
 -- A script by what its lines say, apart from any reading.
-use Rattle.std.specs.Prelude.{ℕ, ◌^◌, ◌<◌, ◌≤◌, ◌≡◌, ◌⊎◌, List, [], ◌∷◌, length, replicate, sum_by, Bool, true, false, Ok, codes, decimal}
+use Rattle.std.specs.Prelude.{ℕ, ◌^◌, ◌<◌, ◌≤◌, ◌≡◌, ◌⊎◌, List, [], ◌∷◌, ◌++◌, length, replicate, sum_by, Bool, true, false, not, IsTrue, Ok, codes, decimal}
 use Rattle.hex.specs.Hex.{decode_of}
+use Rattle.uring_model.specs.declared.jobs.Job.{Job}
 use Rattle.uring_model.specs.declared.jobs.JobKind.{JobKind}
 use Rattle.uring_model.specs.declared.jobs.JobKind.TheVariants.{Nop, Read, Write, Fsync, Ftruncate, Cancel}
 use Rattle.uring_model.specs.declared.jobs.Link.{Link}
 use Rattle.uring_model.specs.declared.jobs.Link.TheVariants.{Free, Soft, Hard}
+use Rattle.uring_model.specs.Jobs.{model_op, moves_bytes, linked}
 use Rattle.uring_text.specs.declared.script.Line.{Line}
 use Rattle.uring_text.specs.declared.script.Line.TheVariants as line
 use Rattle.uring_text.specs.declared.limits.TheConstants.{MAX_FILES, MAX_JOBS, MAX_JOB_BYTES, MAX_READ_BYTES}
@@ -21,10 +23,18 @@ link_text Free = []
 link_text Soft = codes "link" ∷ []
 link_text Hard = codes "hard" ∷ []
 
--- the marks at the end of a job line: `drain` where it is drained, and then its link
-abbrev pub marks : Bool → Link → List (List ℕ)
-marks true link = codes "drain" ∷ link_text link
-marks false link = link_text link
+-- a word that is written where this holds
+abbrev pub word_where : Bool → List ℕ → List (List ℕ)
+word_where true word = word ∷ []
+word_where false word = []
+
+-- the marks at the end of a job line: `drain` where it is drained, `quiet` where it is quiet, and then its link
+abbrev pub marks : Job → List (List ℕ)
+marks job = word_where job.drain (codes "drain") ++ word_where job.quiet (codes "quiet") ++ link_text job.link
+
+-- where a job is quiet, it moves no bytes and has a link
+abbrev pub IsWellMarked : Job → Type 0
+IsWellMarked job = IsTrue job.quiet → IsTrue (not (moves_bytes (model_op job.kind))) × IsTrue (linked job.link)
 
 -- the fields of a kind of job, with these marks after them
 abbrev pub KindSaid : JobKind → List (List ℕ) → List (List ℕ) → Type 0
@@ -40,7 +50,7 @@ abbrev pub FieldsSay : List (List ℕ) → Line → Type 0
 FieldsSay fields line.Blank = ⊥
 FieldsSay fields (line.File seed) = (hex : List ℕ) × (fields ≡ codes "file" ∷ decimal seed.number ∷ hex ∷ []) × (seed.number < 2 ^ 32) × SpellsBytes hex seed.bytes
 FieldsSay fields (line.Choose c) = (fields ≡ codes "choose" ∷ decimal c ∷ []) × (c < 2 ^ 32)
-FieldsSay fields (line.Job job) = KindSaid job.kind fields (marks job.drain job.link)
+FieldsSay fields (line.Job job) = KindSaid job.kind fields (marks job) × IsWellMarked job
 
 -- an empty line and a comment say nothing to do
 abbrev pub Says : List ℕ → Line → Type 0

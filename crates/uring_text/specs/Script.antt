@@ -1,5 +1,5 @@
 -- A script: what each line says, and what all of them say together.
-use Rattle.std.specs.Prelude.{ℕ, ◌+◌, ◌^◌, ◌<◌, ◌≡◌, List, [], ◌∷◌, length, take, replicate, sum_by, Bool, true, false, not, Option, Some, None, IsSome, bytes_eq, option_map, Vec, codes, nat_le, ◌==◌, ◌&&◌, if◌then◌else◌}
+use Rattle.std.specs.Prelude.{ℕ, ◌+◌, ◌^◌, ◌<◌, ◌≡◌, List, [], ◌∷◌, length, take, replicate, sum_by, Bool, true, false, not, Option, Some, None, IsSome, bytes_eq, option_map, Vec, codes, nat_le, ◌==◌, ◌&&◌, ◌||◌, if◌then◌else◌}
 use Rattle.std.specs.List.{list_any}
 use Rattle.std.specs.declared.alloc.Global.{Global}
 use Rattle.uring_model.specs.declared.jobs.Job.{Job}
@@ -7,7 +7,8 @@ use Rattle.uring_model.specs.declared.jobs.JobKind.{JobKind}
 use Rattle.uring_model.specs.declared.jobs.JobKind.TheVariants.{Nop, Read, Write, Fsync, Ftruncate, Cancel}
 use Rattle.uring_model.specs.declared.jobs.Link.{Link}
 use Rattle.uring_model.specs.declared.jobs.Link.TheVariants.{Free, Soft, Hard}
-use Rattle.uring_model.specs.Jobs.{buf_lent}
+use Rattle.uring_model.specs.Jobs.{buf_lent, model_job, may_be_quiet}
+use Rattle.uring_text.specs.declared.marks.Marks.{Marks}
 use Rattle.uring_text.specs.declared.script.Seed.{Seed}
 use Rattle.uring_text.specs.declared.script.Line.{Line}
 use Rattle.uring_text.specs.declared.script.Line.TheVariants as line
@@ -39,6 +40,11 @@ choose_line (choice ∷ []) = do
   Some (line.Choose c)
 choose_line _ = None
 
+-- whether this word stands in front, and what follows it
+unfoldable pub after_word : List ℕ → List (List ℕ) → Bool × List (List ℕ)
+after_word word [] = (false, [])
+after_word word (mark ∷ marks) = if bytes_eq mark word then (true, marks) else (false, mark ∷ marks)
+
 -- the last mark of a job line: `link`, `hard` or none
 unfoldable pub link_mark : List (List ℕ) → Option Link
 link_mark [] = Some Free
@@ -48,12 +54,12 @@ link_mark (mark ∷ []) =
     else None
 link_mark (_ ∷ _ ∷ _) = None
 
--- the marks at the end of a job line: `drain` or not, and then the link
-unfoldable pub marks_of : List (List ℕ) → Option (Bool × Link)
-marks_of [] = Some (false, Free)
-marks_of (mark ∷ marks) =
-    if bytes_eq mark (codes "drain") then option_map (λ link. (true, link)) (link_mark marks)
-    else option_map (λ link. (false, link)) (link_mark (mark ∷ marks))
+-- the marks at the end of a job line: `drain` or not, `quiet` or not, and then the link
+unfoldable pub marks_of : List (List ℕ) → Option Marks
+marks_of fields =
+    let drain = after_word (codes "drain") fields in
+    let quiet = after_word (codes "quiet") drain.1 in
+    option_map (λ link. record { drain = drain.0; quiet = quiet.0; link = link }) (link_mark quiet.1)
 
 -- what a job line says of the kind of its job, and the marks after that
 abbrev pub KindAndMarks : Type 0
@@ -109,11 +115,19 @@ job_fields word fields =
     else if bytes_eq word (codes "cancel") then cancel_fields fields
     else None
 
+-- a quiet job is no read or write, and has a link
+abbrev pub is_well_marked : Job → Bool
+is_well_marked job = not job.quiet || may_be_quiet false (model_job job)
+
+abbrev pub marked_job : JobKind → Marks → Job
+marked_job kind marks = record { kind = kind; drain = marks.drain; quiet = marks.quiet; link = marks.link }
+
 unfoldable pub job_line : List ℕ → List (List ℕ) → Option Line
 job_line word fields = do
   said ← job_fields word fields
   marks ← marks_of said.1
-  Some (line.Job (record { kind = said.0; drain = marks.0; link = marks.1 }))
+  let job = marked_job said.0 marks in
+      if is_well_marked job then Some (line.Job job) else None
 
 unfoldable pub worded_line : List (List ℕ) → Option Line
 worded_line [] = None

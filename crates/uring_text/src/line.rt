@@ -1,14 +1,15 @@
 //! What one line of a script says: a reader for each line of the grammar.
 
-ghost use Rattle.std.specs.Prelude.{◌≡◌, map, IfOk};
+ghost use Rattle.std.specs.Prelude.{◌≡◌, map, IfOk, false};
+ghost use Rattle.uring_model.specs.Jobs.{model_job, may_be_quiet};
 ghost use Rattle.uring_text.specs.Script.{file_line, choose_line, job_line, worded_line, line_says};
 
 use crate::fields::{bytes_of, fields_of, u32_of};
 use crate::jobs::job_fields;
-use crate::marks::marks_of;
+use crate::marks::{Marks, marks_of};
 use crate::script::{Line, Seed};
 use std::alloc::{AllocError, Global};
-use uring_model::Job;
+use uring_model::{Job, JobKind, Link};
 
 /// `file N HEX`
 #[tactic(auto, unfolding(crate::specs::Script::file_line))]
@@ -39,6 +40,14 @@ fn choose_line(fields: &[&[u8]]) -> Option<Line>
     Some(Line::Choose(choice))
 }
 
+/// Whether a job may be quiet where another follows it: it moves no bytes, and has a link.
+fn may_be_quiet(job: &Job) -> bool
+    ensures { result ≡ may_be_quiet false (model_job job.now) }
+{
+    let moves_bytes = matches!(job.kind, JobKind::Read { .. } | JobKind::Write { .. });
+    !moves_bytes && job.link != Link::Free
+}
+
 /// A job, by its kind and its marks.
 #[tactic(auto, unfolding(crate::specs::Script::job_line))]
 fn job_line(alloc: Global, word: &[u8], fields: &[&[u8]]) -> Result<Option<Line>, AllocError>
@@ -47,10 +56,19 @@ fn job_line(alloc: Global, word: &[u8], fields: &[&[u8]]) -> Result<Option<Line>
     let Some((kind, marks)) = job_fields(alloc, word, fields)? else {
         return Ok(None);
     };
-    let Some((drain, link)) = marks_of(marks) else {
+    let Some(Marks { drain, quiet, link }) = marks_of(marks) else {
         return Ok(None);
     };
-    Ok(Some(Line::Job(Job { kind, drain, link })))
+    let job = Job {
+        kind,
+        drain,
+        quiet,
+        link,
+    };
+    if job.quiet && !may_be_quiet(&job) {
+        return Ok(None);
+    }
+    Ok(Some(Line::Job(job)))
 }
 
 /// A line by its first field.

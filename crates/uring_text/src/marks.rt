@@ -1,9 +1,28 @@
 //! The marks at the end of a job line.
 
 ghost use Rattle.std.specs.Prelude.{◌≡◌, map};
-ghost use Rattle.uring_text.specs.Script.{link_mark, marks_of};
+ghost use Rattle.uring_text.specs.Script.{after_word, link_mark, marks_of};
 
 use uring_model::Link;
+
+/// The marks at the end of a job line.
+#[derive(Clone, Copy)]
+pub struct Marks {
+    pub drain: bool,
+    pub quiet: bool,
+    pub link: Link,
+}
+
+/// Whether the word stands in front, and what follows it.
+#[tactic(auto, unfolding(crate::specs::Script::after_word))]
+fn after_word<'a>(word: &[u8], marks: &'a [&'a [u8]]) -> (bool, &'a [&'a [u8]])
+    ensures { (result.0, map (λ x. x.now) result.1.now) ≡ after_word word.now (map (λ x. x.now) marks.now) }
+{
+    match marks {
+        [mark, after @ ..] if *mark == word => (true, after),
+        _ => (false, marks),
+    }
+}
 
 /// The last mark: `link`, `hard` or none.
 #[tactic(auto, unfolding(crate::specs::Script::link_mark))]
@@ -18,19 +37,13 @@ fn link_mark(marks: &[&[u8]]) -> Option<Link>
     }
 }
 
-/// All marks: whether the job is drained, and its link.
-#[tactic(auto, unfolding(crate::specs::Script::marks_of, crate::specs::Script::link_mark))]
-pub fn marks_of(marks: &[&[u8]]) -> Option<(bool, Link)>
+/// All marks: whether the job is drained, whether it is quiet, and its link.
+#[tactic(auto, unfolding(crate::specs::Script::marks_of))]
+pub fn marks_of(marks: &[&[u8]]) -> Option<Marks>
     ensures { result ≡ marks_of (map (λ x. x.now) marks.now) }
 {
-    match marks {
-        [mark, marks @ ..] if *mark == b"drain".as_slice() => {
-            let link = link_mark(marks)?;
-            Some((true, link))
-        }
-        _ => {
-            let link = link_mark(marks)?;
-            Some((false, link))
-        }
-    }
+    let (drain, marks) = after_word(b"drain", marks);
+    let (quiet, marks) = after_word(b"quiet", marks);
+    let link = link_mark(marks)?;
+    Some(Marks { drain, quiet, link })
 }

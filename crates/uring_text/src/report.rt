@@ -30,8 +30,12 @@ fn put_outcome(
 ) -> Result<(), AllocError>
     ensures { OnOk result (string_bytes out.new ≡ string_bytes out.old ++ outcome_line job outcome.now) }
 {
-    let result = outcome.result;
-    write!(out, "out {job} {result} ")?;
+    if outcome.quiet {
+        write!(out, "out {job} quiet ")?;
+    } else {
+        let result = outcome.result;
+        write!(out, "out {job} {result} ")?;
+    }
     put_buffer(alloc, out, &outcome.buf)?;
     out.push_str("\n")
 }
@@ -52,6 +56,7 @@ fn put_event(out: &mut String, event: Event) -> Result<(), AllocError>
             result,
             fin: false,
         } => writeln!(out, "more {job} {result}"),
+        Event::Quiet(job) => writeln!(out, "quiet {job}"),
     }
 }
 

@@ -28,7 +28,7 @@ pub enum Status {
     BadJob(u64),
     /// The partner posted what this number wasn't due.
     Stranger(u64),
-    /// Too many turns passed without a final post.
+    /// Too many turns passed with neither a take nor a final post.
     Stalled,
     /// The partner failed.
     PartnerFault,
