@@ -19,8 +19,9 @@ use Rattle.run_loop.specs.declared.slot.Reply.{Reply}
 use Rattle.run_loop.specs.declared.slot.Slot.{Slot}
 use Rattle.run_loop.specs.declared.slot.Slot.TheVariants.{Open, Done}
 use Rattle.run_loop.specs.Told.{lends}
-use Rattle.run_loop.specs.Slots.{is_strange_at, is_unexpected}
-use Rattle.run_loop.specs.Flights.{WasLent, slot_flight, flight_in, outcome_polled, polled_slot, polled_from, all_polled, with_polled, left_by, times_in, AreOperated, NoneResolved}
+use Rattle.run_loop.specs.Slots.{is_strange_at, is_unexpected, all_closed}
+use Rattle.uring_model.specs.declared.jobs.Outcome.{Outcome}
+use Rattle.run_loop.specs.Flights.{WasLent, next_for, slot_flight, flight_in, outcome_polled, polled_slot, polled_from, all_polled, with_polled, left_by, times_in, AreOperated, NoneResolved}
 
 -- lists by their places
 
@@ -39,7 +40,7 @@ set_here [] k x v e = cc
 set_here (y ∷ ys) zero x v e = refl
 set_here (y ∷ ys) (suc k) x v e = set_here ys k x v e
 
-apart_below : (k j : ℕ) → nat_eq (suc k) (suc j) ≡ false → nat_eq k j ≡ false
+pub apart_below : (k j : ℕ) → nat_eq (suc k) (suc j) ≡ false → nat_eq k j ≡ false
 apart_below k j e = grind (arith, nat_tests)
 
 pub set_else : {A : Type 0} (xs : List A) (k j : ℕ) (v : A) → nat_eq k j ≡ false → slice_get (slice_set xs k v) j ≡ slice_get xs j
@@ -82,11 +83,11 @@ pub none_polled : (ops : Ops) (slots : List Slot) → NoneResolved ops → all_p
 none_polled ops slots h = none_from 0 ops slots h
 
 -- a slot that is open once all is polled was open, and its job isn't resolved
-pub still_open : (slot : Option Slot) (done : Option OpDone) (reply : Reply) → polled_at slot done ≡ Some (Open reply) → (done ≡ None) × (slot ≡ Some (Open reply))
-still_open None answer reply e = cc
-still_open (Some slot) None reply e = (refl, e)
-still_open (Some (Open r)) (Some done) reply e = let bad : Some (Done (outcome_polled r done)) ≡ Some (Open reply) = e in cc
-still_open (Some (Done o)) (Some done) reply e = let bad : Some (Done o) ≡ Some (Open reply) = e in cc
+pub still_open : (slot : Option Slot) (done : Option OpDone) (reply : Reply) (quiet : Bool) → polled_at slot done ≡ Some (Open reply quiet) → (done ≡ None) × (slot ≡ Some (Open reply quiet))
+still_open None answer reply quiet e = cc
+still_open (Some slot) None reply quiet e = (refl, e)
+still_open (Some (Open r q)) (Some done) reply quiet e = let bad : Some (Done (outcome_polled r done)) ≡ Some (Open reply quiet) = e in cc
+still_open (Some (Done o)) (Some done) reply quiet e = let bad : Some (Done o) ≡ Some (Open reply quiet) = e in cc
 
 -- strangers
 
@@ -104,25 +105,34 @@ loan_strange lends n last (Some loan) = by_number lends last (nat_eq loan.number
     by_number false last true = refl
     by_number false last false = refl
 
-strange_in : (b : Bool) (slot : Option Slot) (c : Completion) → is_strange_for (cond b (slot_flight slot) None) c ≡ (not b || is_strange_at slot c)
-strange_in true None c = refl
-strange_in true (Some (Open reply)) c = loan_strange (lends reply) c.user_data (is_final c.flags) c.loan
-strange_in true (Some (Done o)) c = refl
-strange_in false slot c = refl
+strange_in : (b : Bool) (n : ℕ) (slot : Option Slot) (c : Completion) → is_strange_for (cond b (slot_flight n slot) None) c ≡ (not b || is_strange_at slot c)
+strange_in true n None c = refl
+strange_in true n (Some (Open reply quiet)) c = loan_strange (lends reply) c.user_data (is_final c.flags) c.loan
+strange_in true n (Some (Done o)) c = refl
+strange_in false n slot c = refl
 
 -- the engine's strangers are those of the slots
 pub same_stranger : (ops : Ops) (begun : ℕ) (slots : List Slot) (c : Completion) → flight_at ops c.user_data ≡ flight_in begun slots c.user_data → engine.is_stranger ops c ≡ is_unexpected begun slots c
-same_stranger ops begun slots c e = ap (λ o. is_strange_for o c) e ∙ strange_in (nat_lt c.user_data begun) (slice_get slots c.user_data) c
+same_stranger ops begun slots c e = ap (λ o. is_strange_for o c) e ∙ strange_in (nat_lt c.user_data begun) c.user_data (slice_get slots c.user_data) c
 
 -- an operation in flight is of a started job with an open slot
-pub flight_open : (b : Bool) (slot : Option Slot) (flight : Flight) → cond b (slot_flight slot) None ≡ Some flight → (reply : Reply) × (b ≡ true) × (slot ≡ Some (Open reply)) × (lends reply ≡ flight.lent) × (flight.forgotten ≡ false) × (flight.next ≡ None)
-flight_open true None flight e = let bad : None ≡ Some flight = e in cc
-flight_open true (Some (Open reply)) flight e =
-    let same : Some (record { lent = lends reply; forgotten = false; next = None }) ≡ Some flight = e in
-    let f : record { lent = lends reply; forgotten = false; next = None } ≡ flight = cc in
-    (reply, refl, refl, ap (λ (x : Flight). x.lent) f, sym (ap (λ (x : Flight). x.forgotten) f), sym (ap (λ (x : Flight). x.next) f))
-flight_open true (Some (Done o)) flight e = let bad : None ≡ Some flight = e in cc
-flight_open false slot flight e = let bad : None ≡ Some flight = e in cc
+pub record FlightOpen (b : Bool) (n : ℕ) (slot : Option Slot) (flight : Flight) : Type 0 where
+  pub reply : Reply
+  pub quiet : Bool
+  pub started : b ≡ true
+  pub slot_is : slot ≡ Some (Open reply quiet)
+  pub lent : lends reply ≡ flight.lent
+  pub kept : flight.forgotten ≡ false
+  pub next : flight.next ≡ next_for n quiet
+
+pub flight_open : (b : Bool) (n : ℕ) (slot : Option Slot) (flight : Flight) → cond b (slot_flight n slot) None ≡ Some flight → FlightOpen b n slot flight
+flight_open true n None flight e = let bad : None ≡ Some flight = e in cc
+flight_open true n (Some (Open reply quiet)) flight e =
+    let same : Some (record { lent = lends reply; forgotten = false; next = next_for n quiet }) ≡ Some flight = e in
+    let f : record { lent = lends reply; forgotten = false; next = next_for n quiet } ≡ flight = cc in
+    record { reply = reply; quiet = quiet; started = refl; slot_is = refl; lent = ap (λ (x : Flight). x.lent) f; kept = sym (ap (λ (x : Flight). x.forgotten) f); next = sym (ap (λ (x : Flight). x.next) f) }
+flight_open true n (Some (Done o)) flight e = let bad : None ≡ Some flight = e in cc
+flight_open false n slot flight e = let bad : None ≡ Some flight = e in cc
 
 -- how often a job stands in lists
 
@@ -154,15 +164,33 @@ pub itself : (n : ℕ) → nat_eq n n ≡ true
 itself n = grind (arith, nat_tests)
 
 -- a job that is in flight isn't resolved
-pub apart : (ops : Ops) (begun : ℕ) (slots : List Slot) (jobs : List ℕ) → AreOperated ops begun slots jobs → (n : ℕ) (flight : Flight) → flight_at ops n ≡ Some flight
-    → (reply : Reply) × (n < begun) × (slice_get slots n ≡ Some (Open reply)) × (done_at ops n ≡ None) × (slice_get (all_polled ops slots) n ≡ Some (Open reply)) × (lends reply ≡ flight.lent) × (flight.forgotten ≡ false)
+pub record Apart (ops : Ops) (begun : ℕ) (slots : List Slot) (n : ℕ) (flight : Flight) : Type 0 where
+  pub reply : Reply
+  pub quiet : Bool
+  pub below : n < begun
+  pub slot : slice_get slots n ≡ Some (Open reply quiet)
+  pub unresolved : done_at ops n ≡ None
+  pub polled_slot : slice_get (all_polled ops slots) n ≡ Some (Open reply quiet)
+  pub lent : lends reply ≡ flight.lent
+  pub kept : flight.forgotten ≡ false
+  pub next : flight.next ≡ next_for n quiet
+
+pub apart : (ops : Ops) (begun : ℕ) (slots : List Slot) (jobs : List ℕ) → AreOperated ops begun slots jobs → (n : ℕ) (flight : Flight) → flight_at ops n ≡ Some flight → Apart ops begun slots n flight
 apart ops begun slots jobs a n flight e =
-    let p = flight_open (nat_lt n begun) (slice_get (all_polled ops slots) n) flight (sym (a.in_flight n) ∙ e) in
-    let q = still_open (slice_get slots n) (done_at ops n) p.0 (sym (at_all ops slots n) ∙ p.2) in
-    (p.0, below p.1, q.1, q.0, p.2, p.3, p.4)
+    let p = flight_open (nat_lt n begun) n (slice_get (all_polled ops slots) n) flight (sym (a.in_flight n) ∙ e) in
+    let q = still_open (slice_get slots n) (done_at ops n) p.reply p.quiet (sym (at_all ops slots n) ∙ p.slot_is) in
+    record { reply = p.reply; quiet = p.quiet; below = below_of p.started; slot = q.1; unresolved = q.0; polled_slot = p.slot_is; lent = p.lent; kept = p.kept; next = p.next }
   where
-    below : nat_lt n begun ≡ true → n < begun
-    below h = grind (arith, nat_tests)
+    below_of : nat_lt n begun ≡ true → n < begun
+    below_of h = grind (arith, nat_tests)
+
+-- what is open once one has its outcome was open
+pub set_open : (slots : List Slot) (k n : ℕ) (o : Outcome) (reply : Reply) (quiet : Bool) → slice_get (slice_set slots k (Done o)) n ≡ Some (Open reply quiet) → slice_get slots n ≡ Some (Open reply quiet)
+set_open [] k n o reply quiet e = e
+set_open (s ∷ slots) zero zero o reply quiet e = cc
+set_open (s ∷ slots) zero (suc n) o reply quiet e = e
+set_open (s ∷ slots) (suc k) zero o reply quiet e = e
+set_open (s ∷ slots) (suc k) (suc n) o reply quiet e = set_open slots k n o reply quiet e
 
 -- one poll
 
@@ -172,7 +200,7 @@ Polls reply ops begun slots job rest left poll ops' =
     × NoneLeftResolved ops' (left ++ left_by poll job)
     × (all_polled ops' (with_polled reply job poll slots) ≡ all_polled ops slots)
 
-module _ (reply : Reply) (ops : Ops) (begun : ℕ) (slots : List Slot) (job : ℕ) (rest left : List ℕ) (a : AreOperated ops begun slots (job ∷ (rest ++ left))) (h : NoneLeftResolved ops left) (o : IfSome (done_at ops job) (λ _. slice_get slots job ≡ Some (Open reply))) where
+module _ (reply : Reply) (ops : Ops) (begun : ℕ) (slots : List Slot) (job : ℕ) (rest left : List ℕ) (a : AreOperated ops begun slots (job ∷ (rest ++ left))) (h : NoneLeftResolved ops left) (o : IfSome (done_at ops job) (λ _. (quiet : Bool) × (slice_get slots job ≡ Some (Open reply quiet)))) where
   listed_known : knows ops job ≡ true
   listed_known =
       let e = a.listed job in
@@ -186,6 +214,8 @@ module _ (reply : Reply) (ops : Ops) (begun : ℕ) (slots : List Slot) (job : �
         record {
           in_flight = a.in_flight;
           resolved = a.resolved;
+          closed = a.closed;
+          bare = a.bare;
           listed = λ n.
               let l = a.listed n in
               let x = times-append n rest left in
@@ -196,7 +226,7 @@ module _ (reply : Reply) (ops : Ops) (begun : ℕ) (slots : List Slot) (job : �
         (λ n some.
             let z = times-append n left (job ∷ []) in
             let l = h n some in
-            let other : nat_eq job n ≡ false = to_false (nat_eq job n) (λ same. let bad : true ≡ false = sym some ∙ ap (λ m. is_some (done_at ops m)) (sym (same_number job n same)) ∙ ap is_some p.3 in cc) in
+            let other : nat_eq job n ≡ false = to_false (nat_eq job n) (λ same. let bad : true ≡ false = sym some ∙ ap (λ m. is_some (done_at ops m)) (sym (same_number job n same)) ∙ ap is_some p.unresolved in cc) in
             let c : times_in n (job ∷ []) ≡ 0 = rw other refl in
             omega (arith, z, l, c)),
         refl,
@@ -216,8 +246,8 @@ module _ (reply : Reply) (ops : Ops) (begun : ℕ) (slots : List Slot) (job : �
     abbrev filled : List Slot
     filled = slice_set slots job (Done (outcome_polled reply done))
 
-    was_open : slice_get slots job ≡ Some (Open reply)
-    was_open = subst (λ d. IfSome d (λ _. slice_get slots job ≡ Some (Open reply))) some o
+    was_open : (quiet : Bool) × (slice_get slots job ≡ Some (Open reply quiet))
+    was_open = subst (λ d. IfSome d (λ _. (quiet : Bool) × (slice_get slots job ≡ Some (Open reply quiet)))) some o
 
     taken_here : done_at taken job ≡ None
     taken_here = at_remove ops.done job job ∙ ap (λ b. cond b None (done_at ops job)) (itself job)
@@ -228,7 +258,7 @@ module _ (reply : Reply) (ops : Ops) (begun : ℕ) (slots : List Slot) (job : �
     same_at : (k : ℕ) → polled_at (slice_get filled k) (done_at taken k) ≡ polled_at (slice_get slots k) (done_at ops k)
     same_at k = either_way job k _
         (λ e. subst (λ m. polled_at (slice_get filled m) (done_at taken m) ≡ polled_at (slice_get slots m) (done_at ops m)) e
-        ((λ i. polled_at (set_here slots job (Open reply) (Done (outcome_polled reply done)) was_open i) (taken_here i)) ∙ (λ i. polled_at (sym was_open i) (sym some i))))
+        ((λ i. polled_at (set_here slots job (Open reply was_open.0) (Done (outcome_polled reply done)) was_open.1 i) (taken_here i)) ∙ (λ i. polled_at (sym was_open.1 i) (sym some i))))
         (λ e. λ i. polled_at (set_else slots job k (Done (outcome_polled reply done)) e i) (taken_else k e i))
 
     same_slots : all_polled taken filled ≡ all_polled ops slots
@@ -237,7 +267,7 @@ module _ (reply : Reply) (ops : Ops) (begun : ℕ) (slots : List Slot) (job : �
     still_resolved : (n : ℕ) → IfSome (done_at taken n) (WasLent filled n)
     still_resolved n = either_way job n _
         (λ e. subst (λ m. IfSome (done_at taken m) (WasLent filled m)) e (subst (λ o. IfSome o (WasLent filled job)) (sym taken_here) tt))
-        (λ e. subst (λ o. IfSome o (WasLent filled n)) (sym (taken_else n e)) (if_then (done_at ops n) (WasLent slots n) (WasLent filled n) (λ d w. record { reply = w.reply; slot = set_else slots job n (Done (outcome_polled reply done)) e ∙ w.slot; lent = w.lent }) (a.resolved n)))
+        (λ e. subst (λ o. IfSome o (WasLent filled n)) (sym (taken_else n e)) (if_then (done_at ops n) (WasLent slots n) (WasLent filled n) (λ d w. record { reply = w.reply; quiet = w.quiet; slot = set_else slots job n (Done (outcome_polled reply done)) e ∙ w.slot; lent = w.lent; posted = w.posted }) (a.resolved n)))
 
     still_listed : (n : ℕ) → times_in n (rest ++ left) ≡ cond (knows taken n) 1 0
     still_listed n = either_way job n _
@@ -264,6 +294,8 @@ module _ (reply : Reply) (ops : Ops) (begun : ℕ) (slots : List Slot) (job : �
         in_flight = λ n. a.in_flight n ∙ ap (λ s. flight_in begun s n) (sym same_slots);
         resolved = still_resolved;
         listed = still_listed;
+        closed = subst (λ l. all_closed l ≡ l) (sym same_slots) a.closed;
+        bare = λ n r e. a.bare n r (set_open slots job n (outcome_polled reply done) r true e);
       }),
       subst (NoneLeftResolved taken) (sym (append-nil left)) still_left,
       same_slots,
@@ -303,7 +335,7 @@ cons_head : {A : Type 0} (x y : A) (xs ys : List A) → x ∷ xs ≡ y ∷ ys �
 cons_head x y xs ys e = (cc, cc)
 
 -- one more job is polled
-pub polled_next : (reply : Reply) (ops : Ops) (begun : ℕ) (slots : List Slot) (job : ℕ) (rest left behind : List ℕ) → rest ++ left ≡ job ∷ behind → (length rest ≡ 0 → ⊥) → AreOperated ops begun slots (rest ++ left) → NoneLeftResolved ops left → IfSome (done_at ops job) (λ _. slice_get slots job ≡ Some (Open reply))
+pub polled_next : (reply : Reply) (ops : Ops) (begun : ℕ) (slots : List Slot) (job : ℕ) (rest left behind : List ℕ) → rest ++ left ≡ job ∷ behind → (length rest ≡ 0 → ⊥) → AreOperated ops begun slots (rest ++ left) → NoneLeftResolved ops left → IfSome (done_at ops job) (λ _. (quiet : Bool) × (slice_get slots job ≡ Some (Open reply quiet)))
     → (ops' : Ops) (begun' : ℕ) (slots' : List Slot) (jobs' : List ℕ) → ops' ≡ taken_out job ops → slots' ≡ with_polled reply job (polled ops job) slots → begun' ≡ begun → jobs' ≡ behind ++ left_by (polled ops job) job
     → (rest' : List ℕ) × (left' : List ℕ) × (jobs' ≡ rest' ++ left') × (suc (length rest') ≡ length rest) × AreOperated ops' begun' slots' (rest' ++ left') × NoneLeftResolved ops' left' × (all_polled ops' slots' ≡ all_polled ops slots)
 polled_next reply ops begun slots job [] left behind e some a h o ops' begun' slots' jobs' f g k l = absurd (some refl)

@@ -1,4 +1,5 @@
 pub mod SlotLemmas
+pub mod Closing
 pub mod FlightLemmas
 pub mod LentLemmas
 pub mod StartLemmas
@@ -7,11 +8,12 @@ pub mod EntryLemmas
 pub mod RingLemmas
 pub mod LandLemmas
 pub mod RoundLemmas
+pub mod Asks
 pub mod Posts
+pub mod Quiets
 pub mod Prompt
 pub mod Running
 pub mod Journal
-pub mod Asks
 pub mod Results
 pub mod Says
 pub mod Opened

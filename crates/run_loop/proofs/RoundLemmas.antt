@@ -29,7 +29,7 @@ use Rattle.rent_engine.specs.Turns.{TurnEnds, EngineTurned}
 use Rattle.run_loop.specs.declared.slot.Slot.{Slot}
 use Rattle.run_loop.specs.Slots.{land_all, stranger_among, any_final}
 use Rattle.run_loop.specs.Flights.{all_polled, AreOperated, NoneResolved}
-use Rattle.run_loop.specs.Rounds.{pushed_more, IsCalm, Round, RoundEnds, engine_fault}
+use Rattle.run_loop.specs.Rounds.{pushed_more, IsCalm, Round, RoundEnds, engine_fault, goes_on}
 use Rattle.run_loop.proofs.LandLemmas.{stranger-append}
 use Rattle.run_loop.proofs.FlightLemmas.{none_of, none_polled}
 use Rattle.run_loop.proofs.PumpLemmas.{all_completed}
@@ -79,19 +79,19 @@ entered_then kept a ts ms (Some l) m = record {
 }
 
 -- how a turn ended: all that was reaped was taken, or the partner's error was handed on
-abbrev pub Ended : Bool → Ops → List Completion → Ops → Result TurnReport EngineFault → Type 0
-Ended true ops cs ops' result = Pumps ops cs ops' (ending result) × IfOk result (λ report. report.finals ≡ finals_in cs)
-Ended false ops cs ops' result = (e : SubmitError) × (result ≡ Err (engine_fault_of e))
+abbrev pub Ended : Bool → ℕ → Ops → List Completion → Ops → Result TurnReport EngineFault → Type 0
+Ended true taken ops cs ops' result = Pumps ops cs ops' (ending result) × IfOk result (λ report. (report.taken ≡ taken) × (report.finals ≡ finals_in cs))
+Ended false taken ops cs ops' result = (e : SubmitError) × (result ≡ Err (engine_fault_of e))
 
 pub record Did (kept : Completion → Completion) (a : Lists) (ts : List Taken) (ms : List Move) (ops ops' : Ops) (result : Result TurnReport EngineFault) (entered : Bool) (last : Option Lists) (room waiting : ℕ) : Type 0 where
   pub cs : List Completion
   pub went : Went kept a ts ms cs last
-  pub ended : Ended entered ops cs ops' result
+  pub ended : Ended entered (length (took ms)) ops cs ops' result
   pub seen : OnTrue entered (IfSome last (λ l. (room ≡ free_of l) × (waiting ≡ length l.completions)))
 
-finals_of : (cs : List Completion) (taken : ℕ) (result : Result TurnReport EngineFault) → IfOk result (λ report. (report.taken ≡ taken) × (report.finals ≡ finals_in cs)) → IfOk result (λ report. report.finals ≡ finals_in cs)
-finals_of cs taken (Ok report) h = h.1
-finals_of cs taken (Err e) h = tt
+counts_of : (cs : List Completion) (taken all : ℕ) (result : Result TurnReport EngineFault) → taken ≡ all → IfOk result (λ report. (report.taken ≡ taken) × (report.finals ≡ finals_in cs)) → IfOk result (λ report. (report.taken ≡ all) × (report.finals ≡ finals_in cs))
+counts_of cs taken all (Ok report) e h = (h.0 ∙ e, h.1)
+counts_of cs taken all (Err error) e h = tt
 
 -- a full ring, as the starts saw it
 full_after : (a : Lists) (ts : List Taken) (room room' : ℕ) → room ≡ free_of a → room ≡ room' + length ts → room' ≡ 0 → free_of (pushed_more ts a) ≡ 0
@@ -101,18 +101,18 @@ full_after a ts room room' e f z = let n : length (a.pushed ++ ts) ≡ length a.
 whole_of_full : {W : Type 0} (mach : schedule.Machine W) (o : Option (schedule.State W)) (known space : ℕ) (l : Option Lists) (ms : List Move) → IsFullTurn mach o known space l ms → IsWholeTurn mach o l ms
 whole_of_full mach None known space l ms full = tt
 whole_of_full mach (Some a) known space None ms full = tt
-whole_of_full mach (Some a) known space (Some l) ms full = record { ts = full.ts; moves = full.moves ∙ ap (λ t. moves_of_turn (length full.ts) full.ts t.posts) full.told }
+whole_of_full mach (Some a) known space (Some l) ms full = record { ts = full.ts; moves = full.moves ∙ ap (λ t. moves_of_turn (length full.ts) full.ts t.ends) full.told }
 
 module _ {W : Type 0} (mach : schedule.Machine W) {P R : Type 0} (log : P → Option (List LogEvent)) (state : P → Option (schedule.State W)) (lists : R → Option Lists) (ready space : R → ℕ) (kept : Completion → Completion) (moved : R → List Taken → List Completion → R → Type 0) (flags_word : R → ℕ) (used : R → List Taken → List Completion → R → Type 0) (room waiting : R → ℕ) where
-  did_by : (answer : Result ℕ SubmitError) (left to : R) (ops ops' : Ops) (steps steps' : KeptSteps) (result : Result TurnReport EngineFault) (a : Lists) (ts : List Taken) (ms : List Move) → WhereTold (λ l m. Moves kept l (took ms) (posted ms) m) (Some (offered_to a ts)) (lists left) → TurnEnds mach log state lists ready space moved flags_word used room waiting answer left to ops ops' steps steps' result
+  did_by : (answer : Result ℕ SubmitError) (left to : R) (ops ops' : Ops) (steps steps' : KeptSteps) (result : Result TurnReport EngineFault) (a : Lists) (ts : List Taken) (ms : List Move) → WhereTold (λ l m. Moves kept l (took ms) (posted ms) m) (Some (offered_to a ts)) (lists left) → IfOk answer (λ n. n ≡ length (took ms)) → TurnEnds mach log state lists ready space moved flags_word used room waiting answer left to ops ops' steps steps' result
       → Did kept a ts ms ops ops' result (is_ok answer) (lists to) (room to) (waiting to)
-  did_by (Ok taken) left to ops ops' steps steps' result a ts ms m e = record {
+  did_by (Ok taken) left to ops ops' steps steps' result a ts ms m n e = record {
     cs = e.0.completions;
     went = pumped_then kept a ts ms e.0.completions (lists left) (lists to) m e.0.told;
-    ended = (e.0.completed, finals_of e.0.completions taken result e.1);
+    ended = (e.0.completed, counts_of e.0.completions taken (length (took ms)) result n e.1);
     seen = e.0.seen;
   }
-  did_by (Err error) left to ops ops' steps steps' result a ts ms m e = record {
+  did_by (Err error) left to ops ops' steps steps' result a ts ms m n e = record {
     cs = [];
     went = subst (λ r. Went kept a ts ms [] (lists r)) (sym e.0) (entered_then kept a ts ms (lists left) m);
     ended = (error, e.3);
@@ -138,6 +138,7 @@ module _ {W : Type 0} (mach : schedule.Machine W) {P R : Type 0} (log : P → Op
     turn_did =
         did_by t.answer t.left to ops ops' steps steps' result a ts moves
         (subst (λ o. WhereTold (λ l m. Moves kept l (took moves) (posted moves) m) o (lists t.left)) at_is (moved_told t.submitted.shown t.left (took moves) (posted moves) t.submitted.enters.made.sides))
+        t.submitted.enters.taken
         t.ends
 
     full_whole : (answer : Result ℕ SubmitError) (o : Option Lists) → OnOk answer (IsFullTurn mach (state old) (ready t.submitted.shown) (space t.submitted.shown) o moves) → OnOk answer (IsWholeTurn mach (state old) o moves)
@@ -149,7 +150,7 @@ module _ {W : Type 0} (mach : schedule.Machine W) {P R : Type 0} (log : P → Op
     whole_by (Err e) o h = tt
 
     pub round_of : (last : R) → lists last ≡ lists to → IsCalm a (room from) → (todo todo' : List Taken) → todo ≡ ts ++ todo' → room from ≡ room mid + length ts → (todo' ≡ []) ⊎ (room mid ≡ 0) → (started : ℕ) (slots slots' : List Slot) (answer : Result Bool RunFault)
-        → RoundEnds started slots (map kept (posted moves)) slots' entered answer → Round mach log state lists kept old new from last todo todo' started slots slots' answer
+        → RoundEnds started slots (took moves) (map kept (posted moves)) slots' entered answer → Round mach log state lists kept old new from last todo todo' started slots slots' answer
     round_of last same calm todo todo' split places full started slots slots' answer ends = record {
       ts = ts;
       ms = moves;
@@ -181,15 +182,15 @@ module _ {W : Type 0} (mach : schedule.Machine W) {P R : Type 0} (log : P → Op
 pub posts_are : (kept : Completion → Completion) (a : Lists) (ms : List Move) (cs ds : List Completion) → a.completions ≡ [] → a.completions ++ map kept (posted ms) ≡ cs ++ ds → map kept (posted ms) ≡ cs ++ ds
 posts_are kept a ms cs ds e h = ap (λ l. l ++ map kept (posted ms)) (sym e) ∙ h
 
-pub fault_by : (begun : ℕ) (slots slots' : List Slot) (jobs : List ℕ) (ops ops' : Ops) (cs ds posts : List Completion) (entered : Bool) (fault : EngineFault) → AreOperated ops begun slots jobs → NoneResolved ops → posts ≡ cs ++ ds → Ended entered ops cs ops' (Err fault)
-    → RoundEnds begun slots posts slots' entered (Err (engine_fault fault))
-fault_by begun slots slots' jobs ops ops' cs ds posts true (faults.Stranger u) a n e h =
+pub fault_by : (begun : ℕ) (slots slots' : List Slot) (jobs : List ℕ) (ops ops' : Ops) (ts : List Taken) (cs ds posts : List Completion) (entered : Bool) (fault : EngineFault) → AreOperated ops begun slots jobs → NoneResolved ops → posts ≡ cs ++ ds → Ended entered (length ts) ops cs ops' (Err fault)
+    → RoundEnds begun slots ts posts slots' entered (Err (engine_fault fault))
+fault_by begun slots slots' jobs ops ops' ts cs ds posts true (faults.Stranger u) a n e h =
     (refl, ap (stranger_among begun slots) e ∙ stranger-append begun slots cs ds u (ap (λ s. stranger_among begun s cs) (sym (none_polled ops slots n)) ∙ all_completed ops begun slots jobs a cs ops' (Err (faults.Stranger u)) h.0))
-fault_by begun slots slots' jobs ops ops' cs ds posts true (faults.Fault errno) a n e h = tt
-fault_by begun slots slots' jobs ops ops' cs ds posts true faults.NoMemory a n e h = tt
-fault_by begun slots slots' jobs ops ops' cs ds posts false fault a n e (error, h) = let same : fault ≡ engine_fault_of error = cc in subst (λ f. RoundEnds begun slots posts slots' false (Err (engine_fault f))) (sym same) (handed_on error)
+fault_by begun slots slots' jobs ops ops' ts cs ds posts true (faults.Fault errno) a n e h = tt
+fault_by begun slots slots' jobs ops ops' ts cs ds posts true faults.NoMemory a n e h = tt
+fault_by begun slots slots' jobs ops ops' ts cs ds posts false fault a n e (error, h) = let same : fault ≡ engine_fault_of error = cc in subst (λ f. RoundEnds begun slots ts posts slots' false (Err (engine_fault f))) (sym same) (handed_on error)
   where
-    handed_on : (error : SubmitError) → RoundEnds begun slots posts slots' false (Err (engine_fault (engine_fault_of error)))
+    handed_on : (error : SubmitError) → RoundEnds begun slots ts posts slots' false (Err (engine_fault (engine_fault_of error)))
     handed_on submit.Exists = tt
     handed_on submit.NotRegistered = tt
     handed_on (submit.Fault errno) = tt
@@ -218,24 +219,24 @@ any_by_count cs n e =
 
 -- a turn that succeeded
 
-ended_ok : (entered : Bool) (ops : Ops) (cs : List Completion) (ops' : Ops) (report : TurnReport) → Ended entered ops cs ops' (Ok report) → (entered ≡ true) × Pumps ops cs ops' (Ok tt) × (report.finals ≡ finals_in cs)
-ended_ok true ops cs ops' report h = (refl, h.0, h.1)
-ended_ok false ops cs ops' report h = let e : Ok report ≡ Err (engine_fault_of h.0) = h.1 in cc
+ended_ok : (entered : Bool) (taken : ℕ) (ops : Ops) (cs : List Completion) (ops' : Ops) (report : TurnReport) → Ended entered taken ops cs ops' (Ok report) → (entered ≡ true) × Pumps ops cs ops' (Ok tt) × (report.taken ≡ taken) × (report.finals ≡ finals_in cs)
+ended_ok true taken ops cs ops' report h = (refl, h.0, h.1.0, h.1.1)
+ended_ok false taken ops cs ops' report h = let e : Ok report ≡ Err (engine_fault_of h.0) = h.1 in cc
 
 -- all that was posted was taken, nothing of it strange; and the user sees how much fits
-pub record Landed (begun : ℕ) (slots : List Slot) (jobs : List ℕ) (posts : List Completion) (ops' : Ops) (report : TurnReport) (entered : Bool) (after : Lists) (room : ℕ) : Type 0 where
+pub record Landed (begun : ℕ) (slots : List Slot) (jobs : List ℕ) (ts : List Taken) (posts : List Completion) (ops' : Ops) (report : TurnReport) (entered : Bool) (after : Lists) (room : ℕ) : Type 0 where
   pub whole : entered ≡ true
   pub operated : AreOperated ops' begun slots jobs
   pub due : stranger_among begun slots posts ≡ None
   pub lands : all_polled ops' slots ≡ land_all slots posts
-  pub any : any_final posts ≡ nat_lt 0 report.finals
+  pub went : (nat_lt 0 report.taken || nat_lt 0 report.finals) ≡ goes_on ts posts
   pub none : after.completions ≡ []
   pub seen : room ≡ free_of after
 
 pub landed_of : (kept : Completion → Completion) (a : Lists) (ts : List Taken) (ms : List Move) (ops ops' : Ops) (report : TurnReport) (entered : Bool) (last : Option Lists) (room waiting : ℕ) → (d : Did kept a ts ms ops ops' (Ok report) entered last room waiting) → a.completions ≡ [] → waiting ≡ 0
-    → (begun : ℕ) (slots : List Slot) (jobs : List ℕ) → AreOperated ops begun slots jobs → NoneResolved ops → Landed begun slots jobs (map kept (posted ms)) ops' report entered d.went.after room
+    → (begun : ℕ) (slots : List Slot) (jobs : List ℕ) → AreOperated ops begun slots jobs → NoneResolved ops → Landed begun slots jobs (took ms) (map kept (posted ms)) ops' report entered d.went.after room
 landed_of kept a ts ms ops ops' report entered last room waiting d first none begun slots jobs o n =
-    let e = ended_ok entered ops d.cs ops' report d.ended in
+    let e = ended_ok entered (length (took ms)) ops d.cs ops' report d.ended in
     let s : IfSome last (λ l. (room ≡ free_of l) × (waiting ≡ length l.completions)) = subst (λ b. OnTrue b (IfSome last (λ l. (room ≡ free_of l) × (waiting ≡ length l.completions)))) e.0 d.seen in
     let here : (room ≡ free_of d.went.after) × (waiting ≡ length d.went.after.completions) = subst (λ q. IfSome q (λ l. (room ≡ free_of l) × (waiting ≡ length l.completions))) d.went.told s in
     let left : d.went.after.completions ≡ [] = none_of d.went.after.completions (sym here.1 ∙ none) in
@@ -247,15 +248,15 @@ landed_of kept a ts ms ops ops' report entered last room waiting d first none be
       operated = l.1;
       due = (λ i. stranger_among begun (sym start i) (same i)) ∙ l.0;
       lands = l.2 ∙ (λ i. land_all (start i) (sym same i));
-      any = ap any_final same ∙ any_by_count d.cs report.finals e.2;
+      went = let finals = ap any_final same ∙ any_by_count d.cs report.finals e.3 in λ i. nat_lt 0 (e.2 i) || sym finals i;
       none = left;
       seen = here.0;
     }
 
-pub polled_ends : (begun : ℕ) (slots : List Slot) (jobs : List ℕ) (posts : List Completion) (ops' : Ops) (report : TurnReport) (entered : Bool) (after : Lists) (room : ℕ) → Landed begun slots jobs posts ops' report entered after room
-    → (begun' : ℕ) (first slots' : List Slot) → begun' ≡ begun → first ≡ slots → slots' ≡ all_polled ops' slots → RoundEnds begun' first posts slots' entered (Ok (nat_lt 0 report.finals))
-polled_ends begun slots jobs posts ops' report whole after room l begun' first slots' e f g =
-    (l.whole, (λ i. stranger_among (e i) (f i) posts) ∙ l.due, g ∙ l.lands ∙ ap (λ s. land_all s posts) (sym f), sym l.any)
+pub polled_ends : (begun : ℕ) (slots : List Slot) (jobs : List ℕ) (ts : List Taken) (posts : List Completion) (ops' : Ops) (report : TurnReport) (entered : Bool) (after : Lists) (room : ℕ) → Landed begun slots jobs ts posts ops' report entered after room
+    → (begun' : ℕ) (first slots' : List Slot) → begun' ≡ begun → first ≡ slots → slots' ≡ all_polled ops' slots → RoundEnds begun' first ts posts slots' entered (Ok (nat_lt 0 report.taken || nat_lt 0 report.finals))
+polled_ends begun slots jobs ts posts ops' report whole after room l begun' first slots' e f g =
+    (l.whole, (λ i. stranger_among (e i) (f i) posts) ∙ l.due, g ∙ l.lands ∙ ap (λ s. land_all s posts) (sym f), l.went)
 
 pub once_ok : {T E : Type 0} (r : Result T E) (P : Type 0) → is_err r ≡ false → OnOk r P → P
 once_ok (Ok x) P e h = h

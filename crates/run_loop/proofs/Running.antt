@@ -1,5 +1,6 @@
 -- A run so far, and what one more round makes of it.
-use Rattle.std.proofs.Common.{◌≡◌, ℕ, ◌+◌, ◌-◌, ◌*◌, ◌<◌, ◌≤◌, ◌⊎◌, inl, inr, zero, suc, Bool, true, false, cond, List, [], ◌∷◌, ◌++◌, length, map, Result, Ok, Err, Option, Some, None, IfSome, IsTrue, refl, ap, sym, subst, ◌∙◌, arith, append_assoc, length-append}
+use Rattle.std.proofs.Common.{◌≡◌, ℕ, ◌+◌, ◌-◌, ◌*◌, ◌<◌, ◌≤◌, ◌⊎◌, inl, inr, zero, suc, Bool, true, false, ◌||◌, nat_lt, cond, List, [], ◌∷◌, ◌++◌, length, map, Result, Ok, Err, Option, Some, None, IfSome, IsTrue, refl, ap, sym, subst, ◌∙◌, arith, append_assoc, append-nil, length-append}
+use Rattle.std.proofs.lemmas.Bool.Decides.{nat_tests}
 use Rattle.std.proofs.lemmas.List.{length-map}
 use Rattle.std.proofs.Math.Nat.{mul-le-mul_left, mul-le-mul_right, mul-suc, suc-mul}
 use Rattle.uring_base.specs.declared.events.Taken.{Taken}
@@ -8,29 +9,33 @@ use Rattle.uring_base.specs.declared.events.LogEvent.{LogEvent}
 use Rattle.uring_model.specs.declared.jobs.RunFault.{RunFault}
 use Rattle.uring_model.specs.declared.jobs.RunFault.TheVariants as faults
 use Rattle.uring_model.specs.Replay.{IsBusy}
-use Rattle.uring_model.specs.Moves.{Move, Turned, Took, Posted, took, posted, log_of, journal_of, IsLogged}
+use Rattle.uring_model.specs.Moves.{Move, Turned, Took, Posted, Quieted, took, posted, log_of, journal_of, IsLogged}
 use Rattle.uring_model.specs.Machine.{Files}
 use Rattle.uring_model.specs.Schedule as schedule
-use Rattle.uring_model.specs.Schedule.{turn, take_all}
+use Rattle.uring_model.specs.Schedule.{turn, take_all, posts_of}
 use Rattle.uring_model.specs.Refines.{IsPlainAndIdle}
-use Rattle.uring_model.specs.Progress.{turns}
+use Rattle.uring_model.specs.Progress.{turns, EachSettles}
 use Rattle.std.specs.List.{AllByRecursion}
 use Rattle.uring_model.specs.Asks.{IsJobEntry}
 use Rattle.uring_model.specs.Honest.{TakesWithinTurns}
-use Rattle.uring_model.specs.Strange.{nothing_seen, first_strange}
+use Rattle.uring_model.specs.Strange.{Seen, nothing_seen, all_seen, is_answered, ended_in, first_strange}
+use Rattle.uring_model.specs.declared.jobs.Job.{Job}
 use Rattle.ring_traits.specs.Lists.{Lists, IsKept, HasRoom, all_published, free_of, room_of, small}
-use Rattle.run_loop.proofs.Prompt.{six_front, six_back, took_turn, served_some, AllFinal, turn_final, final_any, each_lands, turn_pays}
+use Rattle.run_loop.proofs.Prompt.{six_front, six_back, took_turn, served_some, AllFinal, turn_final, final_any, stands, turn_pays, same_turn}
+use Rattle.run_loop.proofs.Asks.{six_all}
+use Rattle.run_loop.proofs.EntryLemmas.{offers_count}
+use Rattle.run_loop.proofs.Quiets.{loud_last}
 use Rattle.std.specs.Bool.{OnTrue}
 use Rattle.partner_traits.specs.Calls.{IsCall, IsTurn, IsTurnOf, IsWholeTurn}
 use Rattle.run_loop.specs.declared.entries.Offer.{Offer}
 use Rattle.run_loop.specs.declared.slot.Slot.{Slot}
-use Rattle.run_loop.specs.Entries.{all_taken, lends_in}
+use Rattle.run_loop.specs.Entries.{all_taken, lends_in, quiets_in, offers_from, AllValid, AllInRange}
 use Rattle.run_loop.specs.Laws.{ModelLaws}
 use Rattle.run_loop.specs.Told.{idle_turns}
-use Rattle.run_loop.specs.Slots.{final_of, slots_from, count_open, land_all, stranger_among, any_final}
-use Rattle.run_loop.specs.Rounds.{pushed_more, IsCalm, Round}
+use Rattle.run_loop.specs.Slots.{slots_from, count_open, land_all, stranger_among, any_final}
+use Rattle.run_loop.specs.Rounds.{pushed_more, IsCalm, goes_on, Round}
 use Rattle.run_loop.specs.Driven.{Driven, IsOpenJob, IsGivenUp}
-use Rattle.run_loop.proofs.Posts.{lands_all, Tells, seen_after, tells_after, taken_after, strange-append, same_strangers, idle_turns-append, idle_rest, same_final, all_landed, none_landed, open_job, open_few, all_open, slots-length, stranger_kept, land_kept, any_kept}
+use Rattle.run_loop.proofs.Posts.{lands_all, Tells, last_is_quiet, tells_after, taken_after, strange-append, same_strangers, idle_turns-append, idle_rest, all_landed, none_landed, open_job, open_few, slots-length, stranger_kept, land_kept, any_kept}
 
 -- The run so far: what was taken, is published and is still to offer are the offers' entries; the slots are those of the
 -- posts; none of these was strange; and the turns are few.
@@ -45,15 +50,18 @@ pub record Running {W : Type 0} (mach : schedule.Machine W) (view : W → Files)
   pub entries : took ms ++ (l.published ++ todo) ≡ all_taken offers
   pub busy : IsBusy capacity (length offers) 0 (journal_of (log_of ms))
   pub within : TakesWithinTurns 0 ms
-  pub few : turns ms + idle * count_open slots ≤ idle * length offers + idled
+  pub few : turns ms + idle * (count_open slots + (length offers - length (took ms))) ≤ idle * (2 * length offers) + idled
   pub resting : count_open slots ≡ 0 → idled ≡ 0
   pub told_slots : slots ≡ slots_from 0 offers (posted ms)
-  pub expected : first_strange (lends_in offers) nothing_seen (log_of ms) ≡ None
+  pub expected : first_strange (lends_in offers) (quiets_in offers) nothing_seen (log_of ms) ≡ None
   pub idled_is : idled ≡ idle_turns 0 (log_of ms)
   pub started_is : started ≡ length (took ms) + length l.published
   pub holds : (0 < l.capacity) × (0 < l.completion_capacity)
-  pub six : AllByRecursion IsJobEntry (all_taken offers)
-  pub prompt : (a : schedule.State W) → state first ≡ Some a → IsPlainAndIdle Plain a → (idled ≡ 0) × (count_open slots + length (posted ms) ≡ length offers) × (turns ms ≤ length (posted ms))
+  pub jobs : List Job
+  pub offered : offers ≡ offers_from 0 jobs
+  pub valid : AllValid jobs
+  pub range : AllInRange jobs
+  pub prompt : (a : schedule.State W) → state first ≡ Some a → IsPlainAndIdle Plain a → (idled ≡ 0) × EachSettles false ms
 
 -- turns that begin with the ring full or all offers pushed
 
@@ -62,18 +70,21 @@ busy_append c n k [] ns p q = subst (λ j. IsBusy c n j (journal_of (log_of ns))
 busy_append c n k (Turned t ∷ ms) ns p q = (p.0, busy_append c n k ms ns p.1 q)
 busy_append c n k (Took t ∷ ms) ns p q = busy_append c n (k + 1) ms ns p (subst (λ j. IsBusy c n j (journal_of (log_of ns))) (omega arith) q)
 busy_append c n k (Posted d ∷ ms) ns p q = busy_append c n k ms ns p q
+busy_append c n k (Quieted d ∷ ms) ns p q = busy_append c n k ms ns p q
 
 busy_rest : (c n k : ℕ) (ms : List Move) → turns ms ≡ 0 → IsBusy c n k (journal_of (log_of ms))
 busy_rest c n k [] z = tt
 busy_rest c n k (Turned p ∷ ms) z = absurd (omega arith)
 busy_rest c n k (Took t ∷ ms) z = busy_rest c n (k + 1) ms z
 busy_rest c n k (Posted d ∷ ms) z = busy_rest c n k ms z
+busy_rest c n k (Quieted d ∷ ms) z = busy_rest c n k ms z
 
 within_rest : (left : ℕ) (ms : List Move) → turns ms ≡ 0 → length (took ms) ≤ left → TakesWithinTurns left ms
 within_rest left [] z h = tt
 within_rest left (Turned p ∷ ms) z h = absurd (omega arith)
 within_rest left (Took t ∷ ms) z h = (omega arith, within_rest (left - 1) ms z (omega arith))
 within_rest left (Posted d ∷ ms) z h = within_rest left ms z h
+within_rest left (Quieted d ∷ ms) z h = within_rest left ms z h
 
 -- one call: its turn's number is all that is published, and the ring is full or all offers are pushed
 pub record Called (n k started capacity : ℕ) (ms : List Move) : Type 0 where
@@ -135,18 +146,18 @@ few_stalled idle n t o q h k e = let z : idle * 0 + idle ≤ idle * o = more_tim
 pub nothing_told : Tells nothing_seen []
 nothing_told = λ j. refl
 
-call_strange : (offers : List Offer) (ms : List Move) (p : ℕ) (rest : List Move) (started : ℕ) (slots : List Slot) → first_strange (lends_in offers) nothing_seen (log_of ms) ≡ None → turns rest ≡ 0 → length (took ms) + p ≡ started → started ≤ length offers → slots ≡ slots_from 0 offers (posted ms)
-    → first_strange (lends_in offers) nothing_seen (log_of (ms ++ Turned p ∷ rest)) ≡ stranger_among started slots (posted rest)
-call_strange offers ms p rest started slots e z k inside s =
-    let seen = seen_after nothing_seen ms in
+call_strange : (offers : List Offer) (ms : List Move) (p : ℕ) (rest : List Move) (started : ℕ) (slots : List Slot) → last_is_quiet (quiets_in offers) ≡ false → first_strange (lends_in offers) (quiets_in offers) nothing_seen (log_of ms) ≡ None → turns rest ≡ 0 → length (took ms) + p ≡ started → started ≤ length offers → slots ≡ slots_from 0 offers (posted ms)
+    → first_strange (lends_in offers) (quiets_in offers) nothing_seen (log_of (ms ++ Turned p ∷ rest)) ≡ stranger_among started slots (posted rest)
+call_strange offers ms p rest started slots loud e z k inside s =
+    let seen : Seen = all_seen nothing_seen (log_of ms) in
     let number : seen.taken + p ≡ started = omega (arith, taken_after nothing_seen ms, k) in
-    strange-append (lends_in offers) nothing_seen ms (Turned p ∷ rest) e
-    ∙ ap (λ n. first_strange (lends_in offers) (record seen { started = n }) (log_of rest)) number
-    ∙ same_strangers offers (posted ms) (record seen { started = started }) rest z (tells_after nothing_seen [] ms nothing_told) inside
+    strange-append (lends_in offers) (quiets_in offers) nothing_seen ms (Turned p ∷ rest) e
+    ∙ ap (λ n. first_strange (lends_in offers) (quiets_in offers) (record seen { started = n }) (log_of rest)) number
+    ∙ same_strangers offers (posted ms) (record seen { started = started }) rest z (tells_after nothing_seen [] ms nothing_told) loud inside
     ∙ ap (λ x. stranger_among started x (posted rest)) (sym s)
 
-call_idle : (ms : List Move) (p : ℕ) (rest : List Move) (q : ℕ) → turns rest ≡ 0 → q ≡ idle_turns 0 (log_of ms) → idle_turns 0 (log_of (ms ++ Turned p ∷ rest)) ≡ cond (any_final (posted rest)) 0 (q + 1)
-call_idle ms p rest q z e = idle_turns-append 0 ms (Turned p ∷ rest) ∙ idle_rest (suc (idle_turns 0 (log_of ms))) rest z ∙ ap (cond (any_final (posted rest)) 0) (let h : q ≡ idle_turns 0 (log_of ms) = e in omega arith)
+call_idle : (ms : List Move) (p : ℕ) (rest : List Move) (q : ℕ) → turns rest ≡ 0 → q ≡ idle_turns 0 (log_of ms) → idle_turns 0 (log_of (ms ++ Turned p ∷ rest)) ≡ cond (goes_on (took rest) (posted rest)) 0 (q + 1)
+call_idle ms p rest q z e = idle_turns-append 0 ms (Turned p ∷ rest) ∙ idle_rest (suc (idle_turns 0 (log_of ms))) rest z ∙ ap (cond (goes_on (took rest) (posted rest)) 0) (let h : q ≡ idle_turns 0 (log_of ms) = e in omega arith)
 
 -- what any call adds, whether it failed or not
 
@@ -190,6 +201,14 @@ call_turns c n k started ms h = elim h [
   | inl e ↦ let z : turns ms ≡ 0 = ap turns e in omega arith
   | inr t ↦ let z : turns ms ≡ suc (turns t.rest) = ap turns t.moves in omega (arith, z, t.one)
 ]
+
+-- the last offer isn't quiet
+pub running_loud : {W : Type 0} (mach : schedule.Machine W) (view : W → Files) (Plain : W → Type 0) {P R : Type 0} (log : P → Option (List LogEvent)) (state : P → Option (schedule.State W)) (lists : R → Option Lists) (first now : P) (ring : R) (room : ℕ) (todo : List Taken) (started : ℕ) (slots : List Slot) (offers : List Offer) (capacity idle idled : ℕ) → (x : Running mach view Plain log state lists first now ring room todo started slots offers capacity idle idled) → last_is_quiet (quiets_in offers) ≡ false
+running_loud mach view Plain log state lists first now ring room todo started slots offers capacity idle idled x = ap (λ o. last_is_quiet (quiets_in o)) x.offered ∙ loud_last 0 x.jobs x.valid
+
+-- which offers' jobs ended
+pub running_tells : {W : Type 0} (mach : schedule.Machine W) (view : W → Files) (Plain : W → Type 0) {P R : Type 0} (log : P → Option (List LogEvent)) (state : P → Option (schedule.State W)) (lists : R → Option Lists) (first now : P) (ring : R) (room : ℕ) (todo : List Taken) (started : ℕ) (slots : List Slot) (offers : List Offer) (capacity idle idled : ℕ) → (x : Running mach view Plain log state lists first now ring room todo started slots offers capacity idle idled) → Tells (all_seen nothing_seen (log_of x.ms)) (posted x.ms)
+running_tells mach view Plain log state lists first now ring room todo started slots offers capacity idle idled x = tells_after nothing_seen [] x.ms nothing_told
 
 -- a run and one more round
 pub record Next {W : Type 0} (mach : schedule.Machine W) (view : W → Files) (Plain : W → Type 0) {P R : Type 0} (log : P → Option (List LogEvent)) (state : P → Option (schedule.State W)) (lists : R → Option Lists) (kept : Completion → Completion) (first now new : P) (from to : R) (room : ℕ) (todo todo' : List Taken) (started started' : ℕ) (slots slots' : List Slot) (offers : List Offer) (capacity idle idled : ℕ) (answer : Result Bool RunFault) : Type 0 where
@@ -248,11 +267,11 @@ next_inside : {W : Type 0} (mach : schedule.Machine W) (view : W → Files) (Pla
 next_inside mach view Plain log state lists kept first now new from to room todo todo' started started' slots slots' offers capacity idle idled answer x =
     omega (arith, counts offers x.run.ms x.run.l.published todo x.run.entries, x.run.started_is, x.count)
 
-next_strange : {W : Type 0} (mach : schedule.Machine W) (view : W → Files) (Plain : W → Type 0) {P R : Type 0} (log : P → Option (List LogEvent)) (state : P → Option (schedule.State W)) (lists : R → Option Lists) (kept : Completion → Completion) (first now new : P) (from to : R) (room : ℕ) (todo todo' : List Taken) (started started' : ℕ) (slots slots' : List Slot) (offers : List Offer) (capacity idle idled : ℕ) (answer : Result Bool RunFault) (x : Next mach view Plain log state lists kept first now new from to room todo todo' started started' slots slots' offers capacity idle idled answer) → x.round.entered ≡ true → first_strange (lends_in offers) nothing_seen (log_of (x.run.ms ++ x.round.ms)) ≡ stranger_among started' slots (map kept (posted x.round.ms))
+next_strange : {W : Type 0} (mach : schedule.Machine W) (view : W → Files) (Plain : W → Type 0) {P R : Type 0} (log : P → Option (List LogEvent)) (state : P → Option (schedule.State W)) (lists : R → Option Lists) (kept : Completion → Completion) (first now new : P) (from to : R) (room : ℕ) (todo todo' : List Taken) (started started' : ℕ) (slots slots' : List Slot) (offers : List Offer) (capacity idle idled : ℕ) (answer : Result Bool RunFault) (x : Next mach view Plain log state lists kept first now new from to room todo todo' started started' slots slots' offers capacity idle idled answer) → x.round.entered ≡ true → first_strange (lends_in offers) (quiets_in offers) nothing_seen (log_of (x.run.ms ++ x.round.ms)) ≡ stranger_among started' slots (map kept (posted x.round.ms))
 next_strange mach view Plain log state lists kept first now new from to room todo todo' started started' slots slots' offers capacity idle idled answer x e =
     let c = next_entered mach view Plain log state lists kept first now new from to room todo todo' started started' slots slots' offers capacity idle idled answer x e in
-    ap (λ ms. first_strange (lends_in offers) nothing_seen (log_of (x.run.ms ++ ms))) c.moves
-    ∙ call_strange offers x.run.ms c.p c.rest started' slots x.run.expected c.one c.all (next_inside mach view Plain log state lists kept first now new from to room todo todo' started started' slots slots' offers capacity idle idled answer x) x.run.told_slots
+    ap (λ ms. first_strange (lends_in offers) (quiets_in offers) nothing_seen (log_of (x.run.ms ++ ms))) c.moves
+    ∙ call_strange offers x.run.ms c.p c.rest started' slots (running_loud mach view Plain log state lists first now from room todo started slots offers capacity idle idled x.run) x.run.expected c.one c.all (next_inside mach view Plain log state lists kept first now new from to room todo todo' started started' slots slots' offers capacity idle idled answer x) x.run.told_slots
     ∙ ap (λ ms. stranger_among started' slots (posted ms)) (sym c.moves)
     ∙ sym (stranger_kept kept x.keeps started' slots (posted x.round.ms))
 
@@ -266,49 +285,74 @@ next_ran mach view Plain log state lists kept first now new from to room todo to
       entries = next_entries mach view Plain log state lists kept first now new from to room todo todo' started started' slots slots' offers capacity idle idled answer x;
       busy = next_busy mach view Plain log state lists kept first now new from to room todo todo' started started' slots slots' offers capacity idle idled answer x;
       within = next_within mach view Plain log state lists kept first now new from to room todo todo' started started' slots slots' offers capacity idle idled answer x;
-      few = let t = call_turns x.run.l.capacity (length offers) (length (took x.run.ms)) started' x.round.ms (next_called mach view Plain log state lists kept first now new from to room todo todo' started started' slots slots' offers capacity idle idled answer x) in subst (λ k. k ≤ idle * length offers) (sym (x.laws.join.turning x.run.ms x.round.ms)) (few_last idle (length offers) (turns x.run.ms) (count_open slots) idled (turns x.round.ms) x.run.few x.unfinished x.waits t);
+      few = let t = call_turns x.run.l.capacity (length offers) (length (took x.run.ms)) started' x.round.ms (next_called mach view Plain log state lists kept first now new from to room todo todo' started started' slots slots' offers capacity idle idled answer x) in subst (λ k. k ≤ idle * (2 * length offers)) (sym (x.laws.join.turning x.run.ms x.round.ms)) (few_last idle (2 * length offers) (turns x.run.ms) (count_open slots + (length offers - length (took x.run.ms))) idled (turns x.round.ms) x.run.few (omega (arith, x.unfinished)) x.waits t);
     }
 
 -- a round that ends well
 
-next_posts : {W : Type 0} (mach : schedule.Machine W) (view : W → Files) (Plain : W → Type 0) {P R : Type 0} (log : P → Option (List LogEvent)) (state : P → Option (schedule.State W)) (lists : R → Option Lists) (kept : Completion → Completion) (first now new : P) (from to : R) (room : ℕ) (todo todo' : List Taken) (started started' : ℕ) (slots slots' : List Slot) (offers : List Offer) (capacity idle idled : ℕ) (fin : Bool) (x : Next mach view Plain log state lists kept first now new from to room todo todo' started started' slots slots' offers capacity idle idled (Ok fin)) → stranger_among started' (slots_from 0 offers (posted x.run.ms)) (posted x.round.ms) ≡ None
-next_posts mach view Plain log state lists kept first now new from to room todo todo' started started' slots slots' offers capacity idle idled fin x =
+next_posts : {W : Type 0} (mach : schedule.Machine W) (view : W → Files) (Plain : W → Type 0) {P R : Type 0} (log : P → Option (List LogEvent)) (state : P → Option (schedule.State W)) (lists : R → Option Lists) (kept : Completion → Completion) (first now new : P) (from to : R) (room : ℕ) (todo todo' : List Taken) (started started' : ℕ) (slots slots' : List Slot) (offers : List Offer) (capacity idle idled : ℕ) (went : Bool) (x : Next mach view Plain log state lists kept first now new from to room todo todo' started started' slots slots' offers capacity idle idled (Ok went)) → stranger_among started' (slots_from 0 offers (posted x.run.ms)) (posted x.round.ms) ≡ None
+next_posts mach view Plain log state lists kept first now new from to room todo todo' started started' slots slots' offers capacity idle idled went x =
     ap (λ y. stranger_among started' y (posted x.round.ms)) (sym x.run.told_slots)
     ∙ sym (stranger_kept kept x.keeps started' slots (posted x.round.ms))
     ∙ x.round.ends.1
 
-next_slots : {W : Type 0} (mach : schedule.Machine W) (view : W → Files) (Plain : W → Type 0) {P R : Type 0} (log : P → Option (List LogEvent)) (state : P → Option (schedule.State W)) (lists : R → Option Lists) (kept : Completion → Completion) (first now new : P) (from to : R) (room : ℕ) (todo todo' : List Taken) (started started' : ℕ) (slots slots' : List Slot) (offers : List Offer) (capacity idle idled : ℕ) (fin : Bool) (x : Next mach view Plain log state lists kept first now new from to room todo todo' started started' slots slots' offers capacity idle idled (Ok fin)) → slots' ≡ land_all slots (posted x.round.ms)
-next_slots mach view Plain log state lists kept first now new from to room todo todo' started started' slots slots' offers capacity idle idled fin x =
+next_slots : {W : Type 0} (mach : schedule.Machine W) (view : W → Files) (Plain : W → Type 0) {P R : Type 0} (log : P → Option (List LogEvent)) (state : P → Option (schedule.State W)) (lists : R → Option Lists) (kept : Completion → Completion) (first now new : P) (from to : R) (room : ℕ) (todo todo' : List Taken) (started started' : ℕ) (slots slots' : List Slot) (offers : List Offer) (capacity idle idled : ℕ) (went : Bool) (x : Next mach view Plain log state lists kept first now new from to room todo todo' started started' slots slots' offers capacity idle idled (Ok went)) → slots' ≡ land_all slots (posted x.round.ms)
+next_slots mach view Plain log state lists kept first now new from to room todo todo' started started' slots slots' offers capacity idle idled went x =
     x.round.ends.2 ∙ land_kept kept x.keeps slots (posted x.round.ms)
 
-next_fin : {W : Type 0} (mach : schedule.Machine W) (view : W → Files) (Plain : W → Type 0) {P R : Type 0} (log : P → Option (List LogEvent)) (state : P → Option (schedule.State W)) (lists : R → Option Lists) (kept : Completion → Completion) (first now new : P) (from to : R) (room : ℕ) (todo todo' : List Taken) (started started' : ℕ) (slots slots' : List Slot) (offers : List Offer) (capacity idle idled : ℕ) (fin : Bool) (x : Next mach view Plain log state lists kept first now new from to room todo todo' started started' slots slots' offers capacity idle idled (Ok fin)) → fin ≡ any_final (posted x.round.ms)
-next_fin mach view Plain log state lists kept first now new from to room todo todo' started started' slots slots' offers capacity idle idled fin x =
-    x.round.ends.3 ∙ any_kept kept x.keeps (posted x.round.ms)
+next_goes : {W : Type 0} (mach : schedule.Machine W) (view : W → Files) (Plain : W → Type 0) {P R : Type 0} (log : P → Option (List LogEvent)) (state : P → Option (schedule.State W)) (lists : R → Option Lists) (kept : Completion → Completion) (first now new : P) (from to : R) (room : ℕ) (todo todo' : List Taken) (started started' : ℕ) (slots slots' : List Slot) (offers : List Offer) (capacity idle idled : ℕ) (went : Bool) (x : Next mach view Plain log state lists kept first now new from to room todo todo' started started' slots slots' offers capacity idle idled (Ok went)) → went ≡ goes_on (took x.round.ms) (posted x.round.ms)
+next_goes mach view Plain log state lists kept first now new from to room todo todo' started started' slots slots' offers capacity idle idled went x =
+    x.round.ends.3 ∙ ap (λ b. nat_lt 0 (length (took x.round.ms)) || b) (any_kept kept x.keeps (posted x.round.ms))
 
-pub next_count : {W : Type 0} (mach : schedule.Machine W) (view : W → Files) (Plain : W → Type 0) {P R : Type 0} (log : P → Option (List LogEvent)) (state : P → Option (schedule.State W)) (lists : R → Option Lists) (kept : Completion → Completion) (first now new : P) (from to : R) (room : ℕ) (todo todo' : List Taken) (started started' : ℕ) (slots slots' : List Slot) (offers : List Offer) (capacity idle idled : ℕ) (fin : Bool) (x : Next mach view Plain log state lists kept first now new from to room todo todo' started started' slots slots' offers capacity idle idled (Ok fin)) → count_open slots' + cond fin 1 0 ≤ count_open slots
-next_count mach view Plain log state lists kept first now new from to room todo todo' started started' slots slots' offers capacity idle idled fin x =
+-- how many offers are untaken or have no outcome
+abbrev pub left_of : ℕ → List Slot → List Move → ℕ
+left_of n slots ms = count_open slots + (n - length (took ms))
+
+fewer_left : (took_more : ℕ) (any : Bool) (o o' n k k' : ℕ) → o' + cond any 1 0 ≤ o → k' ≡ k + took_more → k' ≤ n → (o' + (n - k')) + cond (nat_lt 0 took_more || any) 1 0 ≤ o + (n - k)
+fewer_left zero true o o' n k k' h e le = omega (arith, h, e, le)
+fewer_left zero false o o' n k k' h e le = omega (arith, h, e, le)
+fewer_left (suc m) any o o' n k k' h e le =
+    let some : nat_lt 0 (suc m) ≡ true = grind (arith, nat_tests) in
+    rw some (omega (arith, at_most any o o' h, e, le))
+  where
+    at_most : (b : Bool) (x y : ℕ) → y + cond b 1 0 ≤ x → y ≤ x
+    at_most true x y h = omega (arith, h)
+    at_most false x y h = omega (arith, h)
+
+pub next_left : {W : Type 0} (mach : schedule.Machine W) (view : W → Files) (Plain : W → Type 0) {P R : Type 0} (log : P → Option (List LogEvent)) (state : P → Option (schedule.State W)) (lists : R → Option Lists) (kept : Completion → Completion) (first now new : P) (from to : R) (room : ℕ) (todo todo' : List Taken) (started started' : ℕ) (slots slots' : List Slot) (offers : List Offer) (capacity idle idled : ℕ) (went : Bool) (x : Next mach view Plain log state lists kept first now new from to room todo todo' started started' slots slots' offers capacity idle idled (Ok went)) → left_of (length offers) slots' (x.run.ms ++ x.round.ms) + cond went 1 0 ≤ left_of (length offers) slots x.run.ms
+next_left mach view Plain log state lists kept first now new from to room todo todo' started started' slots slots' offers capacity idle idled went x =
     let due : stranger_among started' slots (posted x.round.ms) ≡ None = sym (stranger_kept kept x.keeps started' slots (posted x.round.ms)) ∙ x.round.ends.1 in
-    subst (λ y. count_open y + cond fin 1 0 ≤ count_open slots) (sym (next_slots mach view Plain log state lists kept first now new from to room todo todo' started started' slots slots' offers capacity idle idled fin x))
-    (subst (λ b. count_open (land_all slots (posted x.round.ms)) + cond b 1 0 ≤ count_open slots) (sym (next_fin mach view Plain log state lists kept first now new from to room todo todo' started started' slots slots' offers capacity idle idled fin x))
-    (all_landed started' slots (posted x.round.ms) due))
+    let landed : count_open slots' + cond (any_final (posted x.round.ms)) 1 0 ≤ count_open slots =
+    subst (λ y. count_open y + cond (any_final (posted x.round.ms)) 1 0 ≤ count_open slots) (sym (next_slots mach view Plain log state lists kept first now new from to room todo todo' started started' slots slots' offers capacity idle idled went x)) (all_landed started' slots (posted x.round.ms) due) in
+    let more : length (took (x.run.ms ++ x.round.ms)) ≡ length (took x.run.ms) + length (took x.round.ms) = ap length (x.laws.join.takes x.run.ms x.round.ms) ∙ length-append (took x.run.ms) (took x.round.ms) in
+    let all = counts offers (x.run.ms ++ x.round.ms) x.round.after.published todo' (next_entries mach view Plain log state lists kept first now new from to room todo todo' started started' slots slots' offers capacity idle idled (Ok went) x) in
+    subst (λ b. left_of (length offers) slots' (x.run.ms ++ x.round.ms) + cond b 1 0 ≤ left_of (length offers) slots x.run.ms) (sym (next_goes mach view Plain log state lists kept first now new from to room todo todo' started started' slots slots' offers capacity idle idled went x))
+    (fewer_left (length (took x.round.ms)) (any_final (posted x.round.ms)) (count_open slots) (count_open slots') (length offers) (length (took x.run.ms)) (length (took (x.run.ms ++ x.round.ms))) landed more (omega (arith, all)))
 
-resting_next : (fin : Bool) (q r : ℕ) (slots slots' : List Slot) (cs : List Completion) → r ≡ cond fin 0 (q + 1) → slots' ≡ land_all slots cs → fin ≡ any_final cs → 0 < count_open slots → count_open slots' ≡ 0 → r ≡ 0
-resting_next true q r slots slots' cs e s f h z = e
-resting_next false q r slots slots' cs e s f h z =
-    let same : count_open slots' ≡ count_open slots = ap count_open (s ∙ none_landed slots cs (sym f)) in
+or_false : (a b : Bool) → (a || b) ≡ false → b ≡ false
+or_false true b e = cc
+or_false false b e = e
+
+resting_next : (went : Bool) (q r : ℕ) (slots slots' : List Slot) (ts : List Taken) (cs : List Completion) → r ≡ cond went 0 (q + 1) → slots' ≡ land_all slots cs → went ≡ goes_on ts cs → 0 < count_open slots → count_open slots' ≡ 0 → r ≡ 0
+resting_next true q r slots slots' ts cs e s f h z = e
+resting_next false q r slots slots' ts cs e s f h z =
+    let same : count_open slots' ≡ count_open slots = ap count_open (s ∙ none_landed slots cs (or_false (nat_lt 0 (length ts)) (any_final cs) (sym f))) in
     absurd (omega (arith, same, h, z))
 
-next_idle : {W : Type 0} (mach : schedule.Machine W) (view : W → Files) (Plain : W → Type 0) {P R : Type 0} (log : P → Option (List LogEvent)) (state : P → Option (schedule.State W)) (lists : R → Option Lists) (kept : Completion → Completion) (first now new : P) (from to : R) (room : ℕ) (todo todo' : List Taken) (started started' : ℕ) (slots slots' : List Slot) (offers : List Offer) (capacity idle idled : ℕ) (fin : Bool) (x : Next mach view Plain log state lists kept first now new from to room todo todo' started started' slots slots' offers capacity idle idled (Ok fin)) → (q' : ℕ) → q' ≡ cond fin 0 (idled + 1) → q' ≡ idle_turns 0 (log_of (x.run.ms ++ x.round.ms))
-next_idle mach view Plain log state lists kept first now new from to room todo todo' started started' slots slots' offers capacity idle idled fin x =
+took_rest : (p : ℕ) (rest ms : List Move) → ms ≡ Turned p ∷ rest → goes_on (took ms) (posted ms) ≡ goes_on (took rest) (posted rest)
+took_rest p rest ms e = ap (λ l. goes_on (took l) (posted l)) e
+
+next_idle : {W : Type 0} (mach : schedule.Machine W) (view : W → Files) (Plain : W → Type 0) {P R : Type 0} (log : P → Option (List LogEvent)) (state : P → Option (schedule.State W)) (lists : R → Option Lists) (kept : Completion → Completion) (first now new : P) (from to : R) (room : ℕ) (todo todo' : List Taken) (started started' : ℕ) (slots slots' : List Slot) (offers : List Offer) (capacity idle idled : ℕ) (went : Bool) (x : Next mach view Plain log state lists kept first now new from to room todo todo' started started' slots slots' offers capacity idle idled (Ok went)) → (q' : ℕ) → q' ≡ cond went 0 (idled + 1) → q' ≡ idle_turns 0 (log_of (x.run.ms ++ x.round.ms))
+next_idle mach view Plain log state lists kept first now new from to room todo todo' started started' slots slots' offers capacity idle idled went x =
     λ q' e.
-    let c = next_entered mach view Plain log state lists kept first now new from to room todo todo' started started' slots slots' offers capacity idle idled (Ok fin) x x.round.ends.0 in
-    e ∙ ap (λ b. cond b 0 (idled + 1)) (next_fin mach view Plain log state lists kept first now new from to room todo todo' started started' slots slots' offers capacity idle idled fin x ∙ ap (λ ms. any_final (posted ms)) c.moves)
+    let c = next_entered mach view Plain log state lists kept first now new from to room todo todo' started started' slots slots' offers capacity idle idled (Ok went) x x.round.ends.0 in
+    e ∙ ap (λ b. cond b 0 (idled + 1)) (next_goes mach view Plain log state lists kept first now new from to room todo todo' started started' slots slots' offers capacity idle idled went x ∙ took_rest c.p c.rest x.round.ms c.moves)
     ∙ sym (call_idle x.run.ms c.p c.rest idled c.one x.run.idled_is)
     ∙ ap (λ ms. idle_turns 0 (log_of (x.run.ms ++ ms))) (sym c.moves)
 
-next_turns : {W : Type 0} (mach : schedule.Machine W) (view : W → Files) (Plain : W → Type 0) {P R : Type 0} (log : P → Option (List LogEvent)) (state : P → Option (schedule.State W)) (lists : R → Option Lists) (kept : Completion → Completion) (first now new : P) (from to : R) (room : ℕ) (todo todo' : List Taken) (started started' : ℕ) (slots slots' : List Slot) (offers : List Offer) (capacity idle idled : ℕ) (fin : Bool) (x : Next mach view Plain log state lists kept first now new from to room todo todo' started started' slots slots' offers capacity idle idled (Ok fin)) → turns (x.run.ms ++ x.round.ms) ≡ turns x.run.ms + 1
-next_turns mach view Plain log state lists kept first now new from to room todo todo' started started' slots slots' offers capacity idle idled fin x =
-    let c = next_entered mach view Plain log state lists kept first now new from to room todo todo' started started' slots slots' offers capacity idle idled (Ok fin) x x.round.ends.0 in
+next_turns : {W : Type 0} (mach : schedule.Machine W) (view : W → Files) (Plain : W → Type 0) {P R : Type 0} (log : P → Option (List LogEvent)) (state : P → Option (schedule.State W)) (lists : R → Option Lists) (kept : Completion → Completion) (first now new : P) (from to : R) (room : ℕ) (todo todo' : List Taken) (started started' : ℕ) (slots slots' : List Slot) (offers : List Offer) (capacity idle idled : ℕ) (went : Bool) (x : Next mach view Plain log state lists kept first now new from to room todo todo' started started' slots slots' offers capacity idle idled (Ok went)) → turns (x.run.ms ++ x.round.ms) ≡ turns x.run.ms + 1
+next_turns mach view Plain log state lists kept first now new from to room todo todo' started started' slots slots' offers capacity idle idled went x =
+    let c = next_entered mach view Plain log state lists kept first now new from to room todo todo' started started' slots slots' offers capacity idle idled (Ok went) x x.round.ends.0 in
     let one : turns x.round.ms ≡ suc (turns c.rest) = ap turns c.moves in
     x.laws.join.turning x.run.ms x.round.ms ∙ omega (arith, one, c.one)
 
@@ -316,38 +360,65 @@ on_true : (b : Bool) (T : Type 0) → b ≡ true → OnTrue b T → T
 on_true true T e h = h
 on_true false T e h = cc
 
--- an idle partner whose files are told posts in each round, and each of its posts ends a job
-next_prompt : {W : Type 0} (mach : schedule.Machine W) (view : W → Files) (Plain : W → Type 0) {P R : Type 0} (log : P → Option (List LogEvent)) (state : P → Option (schedule.State W)) (lists : R → Option Lists) (kept : Completion → Completion) (first now new : P) (from to : R) (room : ℕ) (todo todo' : List Taken) (started started' : ℕ) (slots slots' : List Slot) (offers : List Offer) (capacity idle idled : ℕ) (fin : Bool) (x : Next mach view Plain log state lists kept first now new from to room todo todo' started started' slots slots' offers capacity idle idled (Ok fin)) (idled' : ℕ) → idled' ≡ cond fin 0 (idled + 1) → (a : schedule.State W) → state first ≡ Some a → IsPlainAndIdle Plain a
-    → (idled' ≡ 0) × (count_open slots' + length (posted (x.run.ms ++ x.round.ms)) ≡ length offers) × (turns (x.run.ms ++ x.round.ms) ≤ length (posted (x.run.ms ++ x.round.ms)))
-next_prompt mach view Plain log state lists kept first now new from to room todo todo' started started' slots slots' offers capacity idle idled fin x idled' e a told is_idle =
+goes_some : (n : ℕ) (cs : List Completion) → (n ≡ 0 → any_final cs ≡ true) → (nat_lt 0 n || any_final cs) ≡ true
+goes_some zero cs f = ap (λ b. nat_lt 0 0 || b) (f refl)
+goes_some (suc n) cs f = let some : nat_lt 0 (suc n) ≡ true = grind (arith, nat_tests) in rw some refl
+
+-- where a turn takes none, all entries were taken
+all_taken_first : (offers : List Offer) (ms : List Move) (rest : List Taken) (p n capacity : ℕ) → took ms ++ rest ≡ all_taken offers → p ≡ 0 → (p ≡ capacity) ⊎ (length (took ms) + p ≡ length offers) → 0 < capacity → took ms ≡ all_taken offers
+all_taken_first offers ms rest p n capacity e z full cap = elim full [
+  | inl q ↦ absurd (omega (arith, z, q, cap))
+  | inr q ↦
+      let count : length (took ms) + length rest ≡ length offers = sym (length-append (took ms) rest) ∙ ap length e ∙ entries-length offers in
+      let none : rest ≡ [] = none_left rest (omega (arith, q, z, count)) in
+      sym (append-nil (took ms)) ∙ ap (λ l. took ms ++ l) (sym none) ∙ e
+]
+  where
+    none_left : (ts : List Taken) → length ts ≡ 0 → ts ≡ []
+    none_left [] h = refl
+    none_left (t ∷ ts) h = absurd (omega arith)
+
+-- in each round of an idle partner whose files are told an entry settles, and one is taken or a post is final
+next_prompt : {W : Type 0} (mach : schedule.Machine W) (view : W → Files) (Plain : W → Type 0) {P R : Type 0} (log : P → Option (List LogEvent)) (state : P → Option (schedule.State W)) (lists : R → Option Lists) (kept : Completion → Completion) (first now new : P) (from to : R) (room : ℕ) (todo todo' : List Taken) (started started' : ℕ) (slots slots' : List Slot) (offers : List Offer) (capacity idle idled : ℕ) (went : Bool) (x : Next mach view Plain log state lists kept first now new from to room todo todo' started started' slots slots' offers capacity idle idled (Ok went)) (idled' : ℕ) → idled' ≡ cond went 0 (idled + 1) → (a : schedule.State W) → state first ≡ Some a → IsPlainAndIdle Plain a
+    → (idled' ≡ 0) × EachSettles false (x.run.ms ++ x.round.ms)
+next_prompt mach view Plain log state lists kept first now new from to room todo todo' started started' slots slots' offers capacity idle idled went x idled' e a told is_idle =
     let q = x.run.prompt a told is_idle in
-    let c = next_entered mach view Plain log state lists kept first now new from to room todo todo' started started' slots slots' offers capacity idle idled (Ok fin) x x.round.ends.0 in
+    let c = next_entered mach view Plain log state lists kept first now new from to room todo todo' started started' slots slots' offers capacity idle idled (Ok went) x x.round.ends.0 in
     let b = served_some mach a x.run.ms (state now) (subst (λ o. schedule.IsServed mach o x.run.ms (state now)) told x.run.states) in
     let w : IsTurnOf mach b.0 x.round.at x.round.ms = subst (λ o. IsWholeTurn mach o (Some x.round.at) x.round.ms) b.1 (on_true x.round.entered (IsWholeTurn mach (state now) (Some x.round.at) x.round.ms) x.round.ends.0 x.round.whole) in
-    let cs = (turn mach w.ts (room_of x.round.at) b.0).posts in
-    let posts : posted x.round.ms ≡ cs = ap posted w.moves ∙ x.laws.turn_posts w.ts cs in
-    let at_room : room_of x.round.at ≡ x.run.l.completion_capacity - (length x.run.l.completions + 0) = ap room_of x.round.published ∙ ap (λ l. l.completion_capacity - (length l.completions + 0)) (same_lists mach view Plain log state lists kept first now new from to room todo todo' started started' slots slots' offers capacity idle idled (Ok fin) x) in
+    let es = (turn mach w.ts (room_of x.round.at) b.0).ends in
+    let posts : posted x.round.ms ≡ posts_of es = ap posted w.moves ∙ x.laws.turn_posts w.ts es in
+    let at_room : room_of x.round.at ≡ x.run.l.completion_capacity - (length x.run.l.completions + 0) = ap room_of x.round.published ∙ ap (λ l. l.completion_capacity - (length l.completions + 0)) (same_lists mach view Plain log state lists kept first now new from to room todo todo' started started' slots slots' offers capacity idle idled (Ok went) x) in
     let none : length x.run.l.completions ≡ 0 = ap length x.run.calm.completions in
     let holds = x.run.holds in
     let room_is : 0 < room_of x.round.at = omega (arith, at_room, none, holds.1) in
-    let whole = next_entries mach view Plain log state lists kept first now new from to room todo todo' started started' slots slots' offers capacity idle idled (Ok fin) x in
-    let took_all : AllByRecursion IsJobEntry (took (x.run.ms ++ x.round.ms)) = six_front (took (x.run.ms ++ x.round.ms)) (x.round.after.published ++ todo') (subst (AllByRecursion IsJobEntry) (sym whole) x.run.six) in
+    let whole = next_entries mach view Plain log state lists kept first now new from to room todo todo' started started' slots slots' offers capacity idle idled (Ok went) x in
+    let all_six : AllByRecursion IsJobEntry (all_taken offers) = subst (λ o. AllByRecursion IsJobEntry (all_taken o)) (sym x.run.offered) (six_all 0 x.run.jobs x.run.valid x.run.range) in
+    let took_all : AllByRecursion IsJobEntry (took (x.run.ms ++ x.round.ms)) = six_front (took (x.run.ms ++ x.round.ms)) (x.round.after.published ++ todo') (subst (AllByRecursion IsJobEntry) (sym whole) all_six) in
     let took_both : AllByRecursion IsJobEntry (took x.run.ms ++ took x.round.ms) = subst (AllByRecursion IsJobEntry) (x.laws.join.takes x.run.ms x.round.ms) took_all in
     let six_run : AllByRecursion IsJobEntry (took x.run.ms) = six_front (took x.run.ms) (took x.round.ms) took_both in
-    let takes : took x.round.ms ≡ w.ts = ap took w.moves ∙ took_turn w.ts cs in
+    let takes : took x.round.ms ≡ w.ts = ap took w.moves ∙ took_turn w.ts es in
     let six_ts : AllByRecursion IsJobEntry w.ts = subst (AllByRecursion IsJobEntry) takes (six_back (took x.run.ms) (took x.round.ms) took_both) in
-    let pays = turn_pays mach view Plain x.laws a b.0 x.run.ms x.round.ms c.rest x.round.at (length offers) c.p x.run.l.capacity (count_open slots) is_idle b.2 six_run w six_ts c.moves c.full holds.0 room_is q.1 x.unfinished in
-    let final : AllFinal (posted x.round.ms) = subst AllFinal (sym posts) (turn_final mach (room_of x.round.at) (take_all b.0 w.ts)) in
-    let yes : fin ≡ true = next_fin mach view Plain log state lists kept first now new from to room todo todo' started started' slots slots' offers capacity idle idled fin x ∙ final_any (posted x.round.ms) final (subst (λ l. 0 < length l) (sym posts) pays) in
-    let due : stranger_among started' slots (posted x.round.ms) ≡ None = sym (stranger_kept kept x.keeps started' slots (posted x.round.ms)) ∙ x.round.ends.1 in
-    let landed : count_open slots' + length (posted x.round.ms) ≡ count_open slots = ap (λ y. count_open y + length (posted x.round.ms)) (next_slots mach view Plain log state lists kept first now new from to room todo todo' started started' slots slots' offers capacity idle idled fin x) ∙ each_lands started' slots (posted x.round.ms) final due in
-    let all : length (posted (x.run.ms ++ x.round.ms)) ≡ length (posted x.run.ms) + length (posted x.round.ms) = ap length (x.laws.join.posts x.run.ms x.round.ms) ∙ length-append (posted x.run.ms) (posted x.round.ms) in
-    (e ∙ ap (λ b. cond b 0 (idled + 1)) yes, omega (arith, landed, all, q.1), omega (arith, q.2, next_turns mach view Plain log state lists kept first now new from to room todo todo' started started' slots slots' offers capacity idle idled fin x, all, ap length posts, pays))
+    let number : c.p ≡ length w.ts = same_turn c.p (length w.ts) c.rest w.ts es x.round.ms c.moves w.moves in
+    let stood = stands mach view Plain x.laws a b.0 x.run.ms is_idle b.2 six_run in
+    let left : 0 < count_open (slots_from 0 offers (posted x.run.ms)) = subst (λ y. 0 < count_open y) x.run.told_slots x.unfinished in
+    let waits = open_job offers (posted x.run.ms) (ended_in (log_of x.run.ms)) (running_tells mach view Plain log state lists first now from room todo started slots offers capacity idle idled x.run) (running_loud mach view Plain log state lists first now from room todo started slots offers capacity idle idled x.run) left in
+    let pays = turn_pays mach view Plain x.laws x.run.jobs a b.0 x.run.ms w.ts (room_of x.round.at) stood x.run.valid x.run.range six_ts
+    (λ z. (
+      all_taken_first offers x.run.ms (x.run.l.published ++ todo) c.p (length offers) x.run.l.capacity x.run.entries (omega (arith, number, z)) c.full holds.0 ∙ ap all_taken x.run.offered,
+      (waits.0, subst (λ n. waits.0 < n) (ap length x.run.offered ∙ offers_count 0 x.run.jobs) waits.1, ap (λ o. is_answered (quiets_in o) (ended_in (log_of x.run.ms)) waits.0) (sym x.run.offered) ∙ waits.2),
+    )) room_is in
+    let final : AllFinal (posts_of es) = turn_final mach (length (take_all b.0 w.ts).pending) (room_of x.round.at) (take_all b.0 w.ts) in
+    let goes : goes_on (took x.round.ms) (posted x.round.ms) ≡ true =
+    (λ i. goes_on (takes i) (posts i)) ∙ goes_some (length w.ts) (posts_of es) (λ z. final_any (posts_of es) final (pays.goes z)) in
+    let yes_went : went ≡ true = next_goes mach view Plain log state lists kept first now new from to room todo todo' started started' slots slots' offers capacity idle idled went x ∙ goes in
+    let settles : EachSettles false x.round.ms = subst (EachSettles false) (sym w.moves) (x.laws.settling (length w.ts) w.ts es pays.settles) in
+    (e ∙ ap (λ b. cond b 0 (idled + 1)) yes_went, x.laws.settling_join x.run.ms x.round.ms q.1 settles)
 
-pub running_next : {W : Type 0} (mach : schedule.Machine W) (view : W → Files) (Plain : W → Type 0) {P R : Type 0} (log : P → Option (List LogEvent)) (state : P → Option (schedule.State W)) (lists : R → Option Lists) (kept : Completion → Completion) (first now new : P) (from to : R) (room : ℕ) (todo todo' : List Taken) (started started' : ℕ) (slots slots' : List Slot) (offers : List Offer) (capacity idle idled : ℕ) (fin : Bool) (room' idled' : ℕ) → (x : Next mach view Plain log state lists kept first now new from to room todo todo' started started' slots slots' offers capacity idle idled (Ok fin)) → (l : Lists) × (lists to ≡ Some l) × IsCalm l room' → idled' ≡ cond fin 0 (idled + 1)
+pub running_next : {W : Type 0} (mach : schedule.Machine W) (view : W → Files) (Plain : W → Type 0) {P R : Type 0} (log : P → Option (List LogEvent)) (state : P → Option (schedule.State W)) (lists : R → Option Lists) (kept : Completion → Completion) (first now new : P) (from to : R) (room : ℕ) (todo todo' : List Taken) (started started' : ℕ) (slots slots' : List Slot) (offers : List Offer) (capacity idle idled : ℕ) (went : Bool) (room' idled' : ℕ) → (x : Next mach view Plain log state lists kept first now new from to room todo todo' started started' slots slots' offers capacity idle idled (Ok went)) → (l : Lists) × (lists to ≡ Some l) × IsCalm l room' → idled' ≡ cond went 0 (idled + 1)
     → Running mach view Plain log state lists first new to room' todo' started' slots' offers capacity idle idled'
-running_next mach view Plain log state lists kept first now new from to room todo todo' started started' slots slots' offers capacity idle idled fin room' idled' x calm e =
-    let entries = next_entries mach view Plain log state lists kept first now new from to room todo todo' started started' slots slots' offers capacity idle idled (Ok fin) x in
+running_next mach view Plain log state lists kept first now new from to room todo todo' started started' slots slots' offers capacity idle idled went room' idled' x calm e =
+    let entries = next_entries mach view Plain log state lists kept first now new from to room todo todo' started started' slots slots' offers capacity idle idled (Ok went) x in
     let ms = x.run.ms ++ x.round.ms in
     let counted = counts offers ms x.round.after.published todo' entries in
     let before = counts offers x.run.ms x.run.l.published todo x.run.entries in
@@ -358,25 +429,28 @@ running_next mach view Plain log state lists kept first now new from to room tod
       l = x.round.after;
       told = x.round.told_after;
       calm = subst (λ y. IsCalm y room') (told_same (lists to) calm.0 x.round.after calm.1 x.round.told_after) calm.2;
-      size = x.round.capacity ∙ ap (λ y. y.capacity) x.round.published ∙ ap (λ y. y.capacity) (same_lists mach view Plain log state lists kept first now new from to room todo todo' started started' slots slots' offers capacity idle idled (Ok fin) x) ∙ x.run.size;
+      size = x.round.capacity ∙ ap (λ y. y.capacity) x.round.published ∙ ap (λ y. y.capacity) (same_lists mach view Plain log state lists kept first now new from to room todo todo' started started' slots slots' offers capacity idle idled (Ok went) x) ∙ x.run.size;
       entries = entries;
-      busy = next_busy mach view Plain log state lists kept first now new from to room todo todo' started started' slots slots' offers capacity idle idled (Ok fin) x;
-      within = next_within mach view Plain log state lists kept first now new from to room todo todo' started started' slots slots' offers capacity idle idled (Ok fin) x;
-      few = subst (λ k. k + idle * count_open slots' ≤ idle * length offers + idled') (sym (next_turns mach view Plain log state lists kept first now new from to room todo todo' started started' slots slots' offers capacity idle idled fin x)) (few_next fin idle (length offers) (turns x.run.ms) (count_open slots) (count_open slots') idled idled' x.run.few (next_count mach view Plain log state lists kept first now new from to room todo todo' started started' slots slots' offers capacity idle idled fin x) x.waits e);
-      resting = resting_next fin idled idled' slots slots' (posted x.round.ms) e (next_slots mach view Plain log state lists kept first now new from to room todo todo' started started' slots slots' offers capacity idle idled fin x) (next_fin mach view Plain log state lists kept first now new from to room todo todo' started started' slots slots' offers capacity idle idled fin x) x.unfinished;
+      busy = next_busy mach view Plain log state lists kept first now new from to room todo todo' started started' slots slots' offers capacity idle idled (Ok went) x;
+      within = next_within mach view Plain log state lists kept first now new from to room todo todo' started started' slots slots' offers capacity idle idled (Ok went) x;
+      few = subst (λ k. k + idle * left_of (length offers) slots' (x.run.ms ++ x.round.ms) ≤ idle * (2 * length offers) + idled') (sym (next_turns mach view Plain log state lists kept first now new from to room todo todo' started started' slots slots' offers capacity idle idled went x)) (few_next went idle (2 * length offers) (turns x.run.ms) (left_of (length offers) slots x.run.ms) (left_of (length offers) slots' (x.run.ms ++ x.round.ms)) idled idled' x.run.few (next_left mach view Plain log state lists kept first now new from to room todo todo' started started' slots slots' offers capacity idle idled went x) x.waits e);
+      resting = resting_next went idled idled' slots slots' (took x.round.ms) (posted x.round.ms) e (next_slots mach view Plain log state lists kept first now new from to room todo todo' started started' slots slots' offers capacity idle idled went x) (next_goes mach view Plain log state lists kept first now new from to room todo todo' started started' slots slots' offers capacity idle idled went x) x.unfinished;
       told_slots =
-          next_slots mach view Plain log state lists kept first now new from to room todo todo' started started' slots slots' offers capacity idle idled fin x ∙ ap (λ y. land_all y (posted x.round.ms)) x.run.told_slots
-          ∙ lands_all started' offers (posted x.run.ms) (posted x.round.ms) (next_posts mach view Plain log state lists kept first now new from to room todo todo' started started' slots slots' offers capacity idle idled fin x)
+          next_slots mach view Plain log state lists kept first now new from to room todo todo' started started' slots slots' offers capacity idle idled went x ∙ ap (λ y. land_all y (posted x.round.ms)) x.run.told_slots
+          ∙ lands_all started' offers (posted x.run.ms) (posted x.round.ms) (next_posts mach view Plain log state lists kept first now new from to room todo todo' started started' slots slots' offers capacity idle idled went x)
           ∙ ap (slots_from 0 offers) (sym (x.laws.join.posts x.run.ms x.round.ms));
-      expected = next_strange mach view Plain log state lists kept first now new from to room todo todo' started started' slots slots' offers capacity idle idled (Ok fin) x x.round.ends.0 ∙ x.round.ends.1;
-      idled_is = next_idle mach view Plain log state lists kept first now new from to room todo todo' started started' slots slots' offers capacity idle idled fin x idled' e;
+      expected = next_strange mach view Plain log state lists kept first now new from to room todo todo' started started' slots slots' offers capacity idle idled (Ok went) x x.round.ends.0 ∙ x.round.ends.1;
+      idled_is = next_idle mach view Plain log state lists kept first now new from to room todo todo' started started' slots slots' offers capacity idle idled went x idled' e;
       started_is = omega (arith, counted, before, x.run.started_is, x.count);
       holds =
-          let cap : x.round.after.capacity ≡ x.run.l.capacity = x.round.capacity ∙ ap (λ y. y.capacity) x.round.published ∙ ap (λ y. y.capacity) (same_lists mach view Plain log state lists kept first now new from to room todo todo' started started' slots slots' offers capacity idle idled (Ok fin) x) in
-          let posts_fit : x.round.after.completion_capacity ≡ x.run.l.completion_capacity = x.round.completion_capacity ∙ ap (λ y. y.completion_capacity) x.round.published ∙ ap (λ y. y.completion_capacity) (same_lists mach view Plain log state lists kept first now new from to room todo todo' started started' slots slots' offers capacity idle idled (Ok fin) x) in
+          let cap : x.round.after.capacity ≡ x.run.l.capacity = x.round.capacity ∙ ap (λ y. y.capacity) x.round.published ∙ ap (λ y. y.capacity) (same_lists mach view Plain log state lists kept first now new from to room todo todo' started started' slots slots' offers capacity idle idled (Ok went) x) in
+          let posts_fit : x.round.after.completion_capacity ≡ x.run.l.completion_capacity = x.round.completion_capacity ∙ ap (λ y. y.completion_capacity) x.round.published ∙ ap (λ y. y.completion_capacity) (same_lists mach view Plain log state lists kept first now new from to room todo todo' started started' slots slots' offers capacity idle idled (Ok went) x) in
           (subst (λ k. 0 < k) (sym cap) x.run.holds.0, subst (λ k. 0 < k) (sym posts_fit) x.run.holds.1);
-      six = x.run.six;
-      prompt = next_prompt mach view Plain log state lists kept first now new from to room todo todo' started started' slots slots' offers capacity idle idled fin x idled' e;
+      jobs = x.run.jobs;
+      offered = x.run.offered;
+      valid = x.run.valid;
+      range = x.run.range;
+      prompt = next_prompt mach view Plain log state lists kept first now new from to room todo todo' started started' slots slots' offers capacity idle idled went x idled' e;
     }
 
 -- a round that ends with a fault
@@ -393,10 +467,15 @@ pub next_faulted : {W : Type 0} (mach : schedule.Machine W) (view : W → Files)
 unfolding next_ran
 next_faulted mach view Plain log state lists kept first now new from to room todo todo' started started' slots slots' offers capacity idle idled e x = (next_ran mach view Plain log state lists kept first now new from to room todo todo' started started' slots slots' offers capacity idle idled (Err e) x, faulted_next mach view Plain log state lists kept first now new from to room todo todo' started started' slots slots' offers capacity idle idled e x)
 
+-- how many entries are untaken, by what stands in the ring and what is still to be offered
+abbrev pub untaken : Option Lists → ℕ → ℕ
+untaken None todo = todo
+untaken (Some l) todo = length l.published + todo
+
 -- where a run ends
 
 abbrev pub running_ran : {W : Type 0} (mach : schedule.Machine W) (view : W → Files) (Plain : W → Type 0) {P R : Type 0} (log : P → Option (List LogEvent)) (state : P → Option (schedule.State W)) (lists : R → Option Lists) (first now : P) (ring : R) (room : ℕ) (todo : List Taken) (started : ℕ) (slots : List Slot) (offers : List Offer) (capacity idle idled : ℕ)
-    → (x : Running mach view Plain log state lists first now ring room todo started slots offers capacity idle idled) → turns x.ms ≤ idle * length offers → Driven mach log state first now offers capacity idle
+    → (x : Running mach view Plain log state lists first now ring room todo started slots offers capacity idle idled) → turns x.ms ≤ idle * (2 * length offers) → Driven mach log state first now offers capacity idle
 running_ran mach view Plain log state lists first now ring room todo started slots offers capacity idle idled x few = record {
   moves = x.ms;
   ahead = x.l.published ++ todo;
@@ -409,34 +488,42 @@ running_ran mach view Plain log state lists first now ring room todo started slo
 }
 
 pub stalled_end : {W : Type 0} (mach : schedule.Machine W) (view : W → Files) (Plain : W → Type 0) {P R : Type 0} (log : P → Option (List LogEvent)) (state : P → Option (schedule.State W)) (lists : R → Option Lists) (first now : P) (ring : R) (room : ℕ) (todo : List Taken) (started : ℕ) (slots : List Slot) (offers : List Offer) (capacity idle idled : ℕ)
-    → (x : Running mach view Plain log state lists first now ring room todo started slots offers capacity idle idled) → idled ≡ idle → 0 < count_open slots → (turns x.ms ≤ idle * length offers) × IsOpenJob offers idle (log_of x.ms)
+    → (x : Running mach view Plain log state lists first now ring room todo started slots offers capacity idle idled) → idled ≡ idle → 0 < count_open slots → (turns x.ms ≤ idle * (2 * length offers)) × IsOpenJob offers idle (log_of x.ms)
 stalled_end mach view Plain log state lists first now ring room todo started slots offers capacity idle idled x e h =
     let left : 0 < count_open (slots_from 0 offers (posted x.ms)) = subst (λ y. 0 < count_open y) x.told_slots h in
-    let j = open_job 0 offers (posted x.ms) left in (
-      few_stalled idle (length offers) (turns x.ms) (count_open slots) idled x.few h e,
+    let j = open_job offers (posted x.ms) (ended_in (log_of x.ms)) (running_tells mach view Plain log state lists first now ring room todo started slots offers capacity idle idled x) (running_loud mach view Plain log state lists first now ring room todo started slots offers capacity idle idled x) left in (
+      few_stalled idle (2 * length offers) (turns x.ms) (left_of (length offers) slots x.ms) idled x.few (omega (arith, h)) e,
       record {
         idled = omega (arith, e, x.idled_is);
         job = j.0;
         inside = j.1;
-        unanswered = same_final j.0 x.ms ∙ ap (λ k. final_of k (posted x.ms)) (omega arith) ∙ j.2;
+        unanswered = j.2;
       },
     )
 
 -- while a job is open, the turns so far are few
 pub few_open : {W : Type 0} (mach : schedule.Machine W) (view : W → Files) (Plain : W → Type 0) {P R : Type 0} (log : P → Option (List LogEvent)) (state : P → Option (schedule.State W)) (lists : R → Option Lists) (first now : P) (ring : R) (room : ℕ) (todo : List Taken) (started : ℕ) (slots : List Slot) (offers : List Offer) (capacity idle idled : ℕ)
-    → (x : Running mach view Plain log state lists first now ring room todo started slots offers capacity idle idled) → 0 < count_open slots → idled < idle → turns x.ms ≤ idle * length offers
+    → (x : Running mach view Plain log state lists first now ring room todo started slots offers capacity idle idled) → 0 < count_open slots → idled < idle → turns x.ms ≤ idle * (2 * length offers)
 few_open mach view Plain log state lists first now ring room todo started slots offers capacity idle idled x left waits =
-    let h = few_last idle (length offers) (turns x.ms) (count_open slots) idled 0 x.few left (omega (arith, waits)) (omega arith) in omega (arith, h)
+    let h = few_last idle (2 * length offers) (turns x.ms) (left_of (length offers) slots x.ms) idled 0 x.few (omega (arith, left)) (omega (arith, waits)) (omega arith) in omega (arith, h)
 
 pub whole_end : {W : Type 0} (mach : schedule.Machine W) (view : W → Files) (Plain : W → Type 0) {P R : Type 0} (log : P → Option (List LogEvent)) (state : P → Option (schedule.State W)) (lists : R → Option Lists) (first now : P) (ring : R) (room : ℕ) (todo : List Taken) (started : ℕ) (slots : List Slot) (offers : List Offer) (capacity idle idled : ℕ)
-    → (x : Running mach view Plain log state lists first now ring room todo started slots offers capacity idle idled) → count_open slots ≡ 0 → turns x.ms ≤ idle * length offers
-whole_end mach view Plain log state lists first now ring room todo started slots offers capacity idle idled x z = few_end idle (length offers) (turns x.ms) (count_open slots) idled x.few (x.resting z)
+    → (x : Running mach view Plain log state lists first now ring room todo started slots offers capacity idle idled) → count_open slots ≡ 0 → turns x.ms ≤ idle * (2 * length offers)
+whole_end mach view Plain log state lists first now ring room todo started slots offers capacity idle idled x z = few_end idle (2 * length offers) (turns x.ms) (left_of (length offers) slots x.ms) idled x.few (x.resting z)
+
+-- an idle partner whose files are told takes at most as many turns as there are offers
+pub prompt_end : {W : Type 0} (mach : schedule.Machine W) (view : W → Files) (Plain : W → Type 0) {P R : Type 0} (log : P → Option (List LogEvent)) (state : P → Option (schedule.State W)) (lists : R → Option Lists) (first now : P) (ring : R) (room : ℕ) (todo : List Taken) (started : ℕ) (slots : List Slot) (offers : List Offer) (capacity idle idled : ℕ)
+    → ModelLaws mach view Plain → (x : Running mach view Plain log state lists first now ring room todo started slots offers capacity idle idled) → (a : schedule.State W) → state first ≡ Some a → IsPlainAndIdle Plain a → turns x.ms ≤ length offers
+prompt_end mach view Plain log state lists first now ring room todo started slots offers capacity idle idled laws x a told rests =
+    let b = served_some mach a x.ms (state now) (subst (λ o. schedule.IsServed mach o x.ms (state now)) told x.states) in
+    let few = laws.world.few true a b.0 x.ms rests.pending b.2 (x.prompt a told rests).1 in
+    omega (arith, few, counts offers x.ms x.l.published todo x.entries)
 
 -- the beginning
 pub running_first : {W : Type 0} (mach : schedule.Machine W) (view : W → Files) (Plain : W → Type 0) {P R : Type 0} (log : P → Option (List LogEvent)) (state : P → Option (schedule.State W)) (lists : R → Option Lists) (first : P) (ring : R) (room : ℕ) (todo : List Taken) (started : ℕ) (slots : List Slot) (offers : List Offer) (capacity idle : ℕ)
-    → ModelLaws mach view Plain → (l : Lists) → lists ring ≡ Some l → IsCalm l room → l.published ≡ [] → l.capacity ≡ capacity → todo ≡ all_taken offers → slots ≡ slots_from 0 offers [] → started ≡ 0 → (0 < l.capacity) × (0 < l.completion_capacity) → AllByRecursion IsJobEntry (all_taken offers)
+    → ModelLaws mach view Plain → (l : Lists) → lists ring ≡ Some l → IsCalm l room → l.published ≡ [] → l.capacity ≡ capacity → todo ≡ all_taken offers → slots ≡ slots_from 0 offers [] → started ≡ 0 → (0 < l.capacity) × (0 < l.completion_capacity) → (jobs : List Job) → offers ≡ offers_from 0 jobs → AllValid jobs → AllInRange jobs
     → Running mach view Plain log state lists first first ring room todo started slots offers capacity idle 0
-running_first mach view Plain log state lists first ring room todo started slots offers capacity idle laws l told calm none size entries told_slots begun holds six = record {
+running_first mach view Plain log state lists first ring room todo started slots offers capacity idle laws l told calm none size entries told_slots begun holds jobs offered valid range = record {
   ms = [];
   logs = laws.stay.logs (log first);
   states = laws.world.stay (state first);
@@ -447,15 +534,18 @@ running_first mach view Plain log state lists first ring room todo started slots
   entries = ap (λ y. y ++ todo) none ∙ entries;
   busy = tt;
   within = tt;
-  few = let n : count_open slots ≤ length offers = subst (λ y. count_open y ≤ length offers) (sym told_slots) (open_few 0 offers []) in let m : idle * count_open slots ≤ idle * length offers = mul-le-mul_left idle n in omega (arith, m);
+  few = let n : count_open slots ≤ length offers = subst (λ y. count_open y ≤ length offers) (sym told_slots) (open_few 0 offers []) in let m : idle * (count_open slots + (length offers - 0)) ≤ idle * (2 * length offers) = mul-le-mul_left idle (omega (arith, n)) in omega (arith, m);
   resting = λ z. refl;
   told_slots = told_slots;
   expected = refl;
   idled_is = refl;
   started_is = omega (arith, begun, ap length none);
   holds = holds;
-  six = six;
-  prompt = λ a e i. (refl, ap (λ y. count_open y + 0) told_slots ∙ all_open 0 offers, omega arith);
+  jobs = jobs;
+  offered = offered;
+  valid = valid;
+  range = range;
+  prompt = λ a e i. (refl, refl);
 }
 
 -- for the loop
@@ -496,3 +586,22 @@ smaller false o p q r idle h e w =
 pub idled_below : (fin : Bool) (q r idle : ℕ) → r ≡ cond fin 0 (q + 1) → q + 1 ≤ idle → (r ≡ idle → ⊥) → r < idle
 idled_below true q r idle e w differs = omega (arith, e, w)
 idled_below false q r idle e w differs = omega (arith, e, w, differs)
+
+-- what is open or untaken, by the run
+pub left_by : {W : Type 0} (mach : schedule.Machine W) (view : W → Files) (Plain : W → Type 0) {P R : Type 0} (log : P → Option (List LogEvent)) (state : P → Option (schedule.State W)) (lists : R → Option Lists) (first now : P) (ring : R) (room : ℕ) (todo : List Offer) (started : ℕ) (slots : List Slot) (offers : List Offer) (capacity idle idled : ℕ)
+    → (x : Running mach view Plain log state lists first now ring room (all_taken todo) started slots offers capacity idle idled) → count_open slots + untaken (lists ring) (length todo) ≡ left_of (length offers) slots x.ms
+left_by mach view Plain log state lists first now ring room todo started slots offers capacity idle idled x =
+    let all = counts offers x.ms x.l.published (all_taken todo) x.entries in
+    let n = entries-length todo in
+    ap (λ o. count_open slots + untaken o (length todo)) x.told ∙ omega (arith, all, n)
+
+-- and how one more round lowers it
+pub next_smaller : {W : Type 0} (mach : schedule.Machine W) (view : W → Files) (Plain : W → Type 0) {P R : Type 0} (log : P → Option (List LogEvent)) (state : P → Option (schedule.State W)) (lists : R → Option Lists) (kept : Completion → Completion) (first now new : P) (from to : R) (room : ℕ) (todo todo' : List Offer) (started started' : ℕ) (slots slots' : List Slot) (offers : List Offer) (capacity idle idled : ℕ) (went : Bool)
+    → (x : Next mach view Plain log state lists kept first now new from to room (all_taken todo) (all_taken todo') started started' slots slots' offers capacity idle idled (Ok went)) → (count_open slots' + untaken (lists to) (length todo')) + cond went 1 0 ≤ count_open slots + untaken (lists from) (length todo)
+next_smaller mach view Plain log state lists kept first now new from to room todo todo' started started' slots slots' offers capacity idle idled went x =
+    let before = left_by mach view Plain log state lists first now from room todo started slots offers capacity idle idled x.run in
+    let all = counts offers (x.run.ms ++ x.round.ms) x.round.after.published (all_taken todo') (next_entries mach view Plain log state lists kept first now new from to room (all_taken todo) (all_taken todo') started started' slots slots' offers capacity idle idled (Ok went) x) in
+    let n = entries-length todo' in
+    let after : count_open slots' + untaken (lists to) (length todo') ≡ left_of (length offers) slots' (x.run.ms ++ x.round.ms) =
+    ap (λ o. count_open slots' + untaken o (length todo')) x.round.told_after ∙ omega (arith, all, n) in
+    omega (arith, before, after, next_left mach view Plain log state lists kept first now new from to room (all_taken todo) (all_taken todo') started started' slots slots' offers capacity idle idled went x)

@@ -1,5 +1,5 @@
 -- What a run tells, from what its rounds did.
-use Rattle.std.proofs.Common.{◌≡◌, ℕ, ◌*◌, ◌<◌, ◌≤◌, true, false, List, [], ◌∷◌, ◌++◌, length, map, replicate, drop, All, IsSome, Result, Ok, Err, Option, Some, None, IfOk, IfErr, IfSome, refl, ap, sym, subst, ◌∙◌, arith}
+use Rattle.std.proofs.Common.{◌≡◌, ℕ, ◌+◌, ◌*◌, ◌<◌, ◌≤◌, Bool, true, false, List, [], ◌∷◌, ◌++◌, length, map, replicate, drop, IsSome, Result, Ok, Err, Option, Some, None, IfOk, IfErr, IfSome, refl, ap, sym, subst, ◌∙◌, arith}
 use Rattle.std.specs.List.{AllByRecursion}
 use Rattle.std.proofs.lemmas.List.Elements.{All-from_recursion, recursion_from_All}
 use Rattle.std.proofs.Math.Seq.{drop-append_seam}
@@ -10,10 +10,10 @@ use Rattle.uring_model.specs.declared.jobs.Outcome.{Outcome}
 use Rattle.uring_model.specs.declared.jobs.Report.{Report}
 use Rattle.uring_model.specs.declared.jobs.RunFault.{RunFault}
 use Rattle.uring_model.specs.declared.jobs.RunFault.TheVariants as faults
-use Rattle.uring_model.specs.Jobs.{model_job, model_jobs}
+use Rattle.uring_model.specs.Jobs.{model_job, model_jobs, quiets_of}
 use Rattle.std.proofs.lemmas.List.{length-map}
 use Rattle.uring_model.specs.Replay.{last_unlinked, IsBusy, IsWhole, table}
-use Rattle.uring_model.specs.Moves.{Move, took, posted, event_of, journal_of, log_of, IsLogged}
+use Rattle.uring_model.specs.Moves.{Move, took, posted, quieted, event_of, journal_of, log_of, IsLogged}
 use Rattle.uring_model.specs.Partner.{job_of, idle}
 use Rattle.uring_model.specs.Partner as filed
 use Rattle.uring_model.specs.Machine.{Files}
@@ -23,13 +23,15 @@ use Rattle.uring_model.specs.Asks.{IsJobEntry}
 use Rattle.uring_model.specs.Progress.{turns}
 use Rattle.uring_model.specs.Explained.{Numbered, record_all, AllFresh, Explained}
 use Rattle.uring_model.specs.Honest.{HasOwnLoan}
-use Rattle.uring_model.specs.Strange.{nothing_seen, first_strange}
+use Rattle.uring_model.specs.Strange.{nothing_seen, is_answered, ended_in, first_strange}
+use Rattle.uring_base.specs.declared.events.Taken.{Taken}
+use Rattle.uring_model.proofs.Honest.{quiets_unlinked}
 use Rattle.run_loop.specs.declared.entries.Offer.{Offer}
 use Rattle.run_loop.specs.declared.slot.Slot.{Slot}
 use Rattle.run_loop.specs.declared.slot.Slot.TheVariants.{Done}
 use Rattle.run_loop.specs.Driven.{Driven, IsGivenUp}
 use Rattle.run_loop.specs.declared.slot.Reply.{Reply}
-use Rattle.run_loop.specs.Entries.{offers_from, all_taken, reply_in, lends_in, lends_at, AllValid, AllInRange}
+use Rattle.run_loop.specs.Entries.{offers_from, all_taken, reply_in, lends_in, lends_at, quiets_in, quiets_at, AllValid, AllInRange}
 use Rattle.run_loop.specs.Laws.{ModelLaws}
 use Rattle.run_loop.specs.Memory.{Explains, replayed_outcomes}
 use Rattle.run_loop.specs.Rounds.{is_partner_fault, is_stall, is_stranger_fault}
@@ -38,7 +40,10 @@ use Rattle.run_loop.specs.Slots.{count_open, slots_from}
 use Rattle.run_loop.proofs.EntryLemmas.{offers_count}
 use Rattle.run_loop.proofs.Asks.{asks_all, six_all, numbered_all, own_all, replies_first, asks, asks_list}
 use Rattle.run_loop.proofs.Prompt.{served_some, six_front}
-use Rattle.run_loop.proofs.Results.{results_from, results_first, record_results, steps_final, all_set, outcomes_of_slots, answers, answered, told_outcomes}
+use Rattle.run_loop.proofs.Results.{results_from, results_first, record_results, steps_final, outcomes_of_slots, answers, answered, quiet_asks, is_loud, loud_answers, marks_same, told_outcomes}
+use Rattle.run_loop.proofs.Posts.{done_jobs, tells_after, last_is_quiet}
+use Rattle.run_loop.proofs.Running.{nothing_told}
+use Rattle.run_loop.proofs.Quiets.{quiet_at, quiets_jobs, quiets_plain, valid_linked, loud_last, quiets_move_none, quiets_named, are_quiets}
 
 -- the run by its jobs
 
@@ -51,7 +56,7 @@ ran_of mach view Plain log state old new jobs capacity idle d = record {
   entries = d.entries;
   busy = subst (λ n. IsBusy capacity n 0 (journal_of (log_of d.moves))) (offers_count 0 jobs) d.busy;
   within = d.within;
-  few = subst (λ n. turns d.moves ≤ idle * n) (offers_count 0 jobs) d.few;
+  few = subst (λ n. turns d.moves ≤ idle * (2 * n)) (offers_count 0 jobs) d.few;
 }
 
 -- nothing was done
@@ -74,14 +79,27 @@ replies_at jobs = reply_in (offers_from 0 jobs)
 pub record FromIdle (jobs : List Job) (a b : filed.PartnerState) (ms : List Move) : Type 0 where
   pub explained : Explained (model_jobs jobs) a.world a.choices ms b
   pub steps : filed.Steps false (idle a.world a.choices) ms b
-  pub honest : first_strange (lends_at jobs) nothing_seen (log_of ms) ≡ None
+  pub honest : first_strange (lends_at jobs) (quiets_at jobs) nothing_seen (log_of ms) ≡ None
   pub told : AllByRecursion (λ c. answers (replies_at jobs) c ≡ true) (posted ms)
+  pub loud : AllByRecursion (λ c. is_loud (quiet_at (quiets_at jobs)) c ≡ true) (posted ms)
+  pub quiets : AllByRecursion (λ n. quiet_at (quiets_at jobs) n ≡ true) (quieted ms)
+  pub heard : ((j : ℕ) → j < length jobs → is_answered (quiets_at jobs) (ended_in (log_of ms)) j ≡ true) → IsWhole explained.state
   pub restful : IsWhole explained.state → filed.IsIdle b
 
 -- what holds of a list's members holds of those of its front
 front_of : {A : Type 0} (P : A → Type 0) (xs ys : List A) → AllByRecursion P (xs ++ ys) → AllByRecursion P xs
 front_of P [] ys h = tt
 front_of P (x ∷ xs) ys h = (h.0, front_of P xs ys h.1)
+
+-- the marks of the entries, by their numbers
+
+all_marked : (quiet : ℕ → Bool) (ts : List Taken) → AllByRecursion (λ t. (job_of t).quiet ≡ quiet t.entry.user_data) ts → AllByRecursion (λ t. quiet_asks quiet t ≡ true) ts
+all_marked quiet [] h = tt
+all_marked quiet (t ∷ ts) h = (marks_same (job_of t).quiet (quiet t.entry.user_data) h.0, all_marked quiet ts h.1)
+
+all_ended : (quiet : ℕ → Bool) (ts : List Taken) → AllByRecursion (λ t. (job_of t).quiet ≡ quiet t.entry.user_data) ts → AllByRecursion (λ t. (job_of t).quiet ≡ true → quiet t.entry.user_data ≡ true) ts
+all_ended quiet [] h = tt
+all_ended quiet (t ∷ ts) h = ((λ q. sym h.0 ∙ q), all_ended quiet ts h.1)
 
 pub from_idle : {W : Type 0} (mach : schedule.Machine W) (view : W → Files) (Plain : W → Type 0) {P : Type 0} (laws : ModelLaws mach view Plain) (log : P → Option (List LogEvent)) (state : P → Option (schedule.State W)) (old new : P) (jobs : List Job) (capacity bound : ℕ) (d : Driven mach log state old new (offers_from 0 jobs) capacity bound) → AllValid jobs → AllInRange jobs → (a : schedule.State W) → state old ≡ Some a → IsPlainAndIdle Plain a
     → (b : schedule.State W) × (state new ≡ Some b) × FromIdle jobs (viewed view a) (viewed view b) d.moves × Plain b.world
@@ -97,13 +115,32 @@ from_idle mach view Plain laws log state old new jobs capacity bound d valid ran
     let steps = laws.idle_moves (viewed view a) (viewed view b) d.moves resting calls in
     let own : AllByRecursion (HasOwnLoan (lends_at jobs)) (took d.moves ++ d.ahead) = subst (AllByRecursion (HasOwnLoan (lends_at jobs))) (sym d.entries) (own_all (replies_at jobs) (lends_at jobs) (λ j. refl) 0 jobs (replies_first jobs)) in
     let entries_ask : AllByRecursion (λ t. asks (replies_at jobs) t ≡ true) (took d.moves ++ d.ahead) = subst (AllByRecursion (λ t. asks (replies_at jobs) t ≡ true)) (sym d.entries) (asks_list (replies_at jobs) 0 jobs (replies_first jobs) valid range) in
+    let linked = valid_linked jobs valid in
+    let quiet : ℕ → Bool = quiet_at (quiets_at jobs) in
+    let marks : quiets_at jobs ≡ quiets_of (model_jobs jobs) = quiets_jobs 0 jobs in
+    let entry_marks : quiets_of (map job_of (took d.moves ++ d.ahead)) ≡ quiets_at jobs = ap quiets_of same_jobs ∙ quiets_unlinked (model_jobs jobs) ∙ sym marks in
+    let named : AllByRecursion (λ t. (job_of t).quiet ≡ quiet_at (quiets_at jobs) t.entry.user_data) (took d.moves ++ d.ahead) =
+    quiets_named (quiet_at (quiets_at jobs)) 0 (took d.moves ++ d.ahead) (λ i. let z : 0 + i ≡ i = omega arith in (λ k. quiet_at (sym entry_marks k) (z k))) numbered in
+    let named_front = front_of (λ t. (job_of t).quiet ≡ quiet_at (quiets_at jobs) t.entry.user_data) (took d.moves) d.ahead named in
     let explained = laws.explained (model_jobs jobs) d.moves d.ahead (viewed view a) (viewed view b) resting same_jobs numbered calls in (
       b,
       served.1,
       record {
         explained = explained;
         steps = steps;
-        honest = laws.honest (lends_at jobs) (model_jobs jobs) (view a.world) a.choices d.moves d.ahead (viewed view b) same_jobs numbered steps (All-from_recursion (HasOwnLoan (lends_at jobs)) (took d.moves) (front_of (HasOwnLoan (lends_at jobs)) (took d.moves) d.ahead own)) d.within;
+        honest =
+            ap (λ qs. first_strange (lends_at jobs) qs nothing_seen (log_of d.moves)) marks
+            ∙ laws.honest (lends_at jobs) (model_jobs jobs) (view a.world) a.choices d.moves d.ahead (viewed view b) linked same_jobs numbered steps (All-from_recursion (HasOwnLoan (lends_at jobs)) (took d.moves) (front_of (HasOwnLoan (lends_at jobs)) (took d.moves) d.ahead own)) d.within;
+        loud =
+            recursion_from_All (λ c. is_loud (quiet_at (quiets_at jobs)) c ≡ true) (posted d.moves)
+            (laws.answers (quiet_asks (quiet_at (quiets_at jobs))) (is_loud (quiet_at (quiets_at jobs))) (view a.world) a.choices d.moves (viewed view b) (loud_answers (quiet_at (quiets_at jobs))) steps
+            (All-from_recursion (λ t. quiet_asks (quiet_at (quiets_at jobs)) t ≡ true) (took d.moves) (all_marked (quiet_at (quiets_at jobs)) (took d.moves) named_front)));
+        quiets =
+            recursion_from_All (λ n. quiet_at (quiets_at jobs) n ≡ true) (quieted d.moves)
+            (laws.quiets (quiet_at (quiets_at jobs)) (view a.world) a.choices d.moves (viewed view b) steps
+            (All-from_recursion (λ t. (job_of t).quiet ≡ true → quiet_at (quiets_at jobs) t.entry.user_data ≡ true) (took d.moves) (all_ended (quiet_at (quiets_at jobs)) (took d.moves) named_front)));
+        heard = λ all. laws.heard (model_jobs jobs) (view a.world) a.choices d.moves d.ahead (viewed view b) explained.state linked same_jobs numbered steps explained.replays
+            (λ j lt. ap (λ qs. is_answered qs (ended_in (log_of d.moves)) j) (sym marks) ∙ all j (omega (arith, lt, length-map jobs model_job)));
         told =
             recursion_from_All (λ c. answers (replies_at jobs) c ≡ true) (posted d.moves)
             (laws.answers (asks (replies_at jobs)) (answers (replies_at jobs)) (view a.world) a.choices d.moves (viewed view b) (answered (replies_at jobs)) steps
@@ -115,7 +152,7 @@ from_idle mach view Plain laws log state old new jobs capacity bound d valid ran
 
 -- a run that ends with a fault
 
-stranger_not : (e : RunFault) (jobs : List Job) (bound : ℕ) (log : List LogEvent) → IsGivenUp (offers_from 0 jobs) bound log e → first_strange (lends_at jobs) nothing_seen log ≡ None → is_stranger_fault e ≡ false
+stranger_not : (e : RunFault) (jobs : List Job) (bound : ℕ) (log : List LogEvent) → IsGivenUp (offers_from 0 jobs) bound log e → first_strange (lends_at jobs) (quiets_at jobs) nothing_seen log ≡ None → is_stranger_fault e ≡ false
 stranger_not (faults.Stranger u) jobs bound log g h = let bad : None ≡ Some u = sym h ∙ g in cc
 stranger_not faults.Stalled jobs bound log g h = refl
 stranger_not faults.PartnerFault jobs bound log g h = refl
@@ -150,26 +187,34 @@ says_fault mach view Plain laws log state old new jobs capacity bound e valid ra
 
 -- a run that ends well
 
-whole_results : (jobs : List Job) (a b : filed.PartnerState) (ms : List Move) → (f : FromIdle jobs a b ms) → table f.explained.state ≡ results_from 0 (offers_from 0 jobs) (posted ms)
+whole_results : (jobs : List Job) (a b : filed.PartnerState) (ms : List Move) → (f : FromIdle jobs a b ms) → table f.explained.state ≡ results_from 0 (length jobs) (posted ms) (quieted ms)
 whole_results jobs a b ms f =
-    let n : length (model_jobs jobs) ≡ length (offers_from 0 jobs) = length-map jobs model_job ∙ sym (offers_count 0 jobs) in
-    let first : replicate (length (model_jobs jobs)) None ≡ results_from 0 (offers_from 0 jobs) [] = ap (λ k. replicate k None) n ∙ sym (results_first 0 (offers_from 0 jobs)) in
+    let n : length (model_jobs jobs) ≡ length jobs = length-map jobs model_job in
+    let first : replicate (length (model_jobs jobs)) None ≡ results_from 0 (length jobs) [] [] = ap (λ k. replicate k None) n ∙ sym (results_first 0 (length jobs)) in
     f.explained.outcomes
-    ∙ ap (λ t. record_all t (posted ms)) first
-    ∙ record_results (offers_from 0 jobs) [] (posted ms) (steps_final false (idle a.world a.choices) b ms f.steps) (subst (λ t. AllFresh t (posted ms)) first f.explained.fresh)
+    ∙ ap (λ t. record_all t ms) first
+    ∙ record_results (length jobs) [] [] ms (steps_final false (idle a.world a.choices) b ms f.steps) (subst (λ t. AllFresh t ms) first f.explained.fresh)
 
-pub answered_by : (jobs : List Job) (ms : List Move) (os : List Outcome) → first_strange (lends_at jobs) nothing_seen (log_of ms) ≡ None → map (λ o. Done o) os ≡ slots_from 0 (offers_from 0 jobs) (posted ms) → IsAnswered jobs (log_of ms) os
-answered_by jobs ms os honest slots = record {
+-- where each slot has an outcome each job is answered
+all_heard : (jobs : List Job) (ms : List Move) → AllValid jobs → count_open (slots_from 0 (offers_from 0 jobs) (posted ms)) ≡ 0 → (j : ℕ) → j < length jobs → is_answered (quiets_at jobs) (ended_in (log_of ms)) j ≡ true
+all_heard jobs ms valid none j lt =
+    done_jobs (offers_from 0 jobs) (posted ms) (ended_in (log_of ms)) (tells_after nothing_seen [] ms nothing_told) (loud_last 0 jobs valid) none j (omega (arith, lt, offers_count 0 jobs))
+
+pub answered_by : (jobs : List Job) (ms : List Move) (os : List Outcome) → AllValid jobs → count_open (slots_from 0 (offers_from 0 jobs) (posted ms)) ≡ 0 → first_strange (lends_at jobs) (quiets_at jobs) nothing_seen (log_of ms) ≡ None → map (λ o. Done o) os ≡ slots_from 0 (offers_from 0 jobs) (posted ms) → IsAnswered jobs (log_of ms) os
+answered_by jobs ms os valid none honest slots = record {
   expected = honest;
+  answered = all_heard jobs ms valid none;
   outcomes = outcomes_of_slots jobs ms os slots;
 }
 
-whole_explains : {W : Type 0} (mach : schedule.Machine W) (view : W → Files) (Plain : W → Type 0) (laws : ModelLaws mach view Plain) (jobs : List Job) (a b : schedule.State W) (ms : List Move) (report : Report) → FromIdle jobs (viewed view a) (viewed view b) ms → Plain b.world → count_open (slots_from 0 (offers_from 0 jobs) (posted ms)) ≡ 0 → map (λ o. Some o) report.outcomes.items ≡ outcomes_from 0 jobs (log_of ms) → turns ms ≤ length jobs
+whole_explains : {W : Type 0} (mach : schedule.Machine W) (view : W → Files) (Plain : W → Type 0) (laws : ModelLaws mach view Plain) (jobs : List Job) (a b : schedule.State W) (ms : List Move) (report : Report) → AllValid jobs → FromIdle jobs (viewed view a) (viewed view b) ms → Plain b.world → count_open (slots_from 0 (offers_from 0 jobs) (posted ms)) ≡ 0 → map (λ o. Some o) report.outcomes.items ≡ outcomes_from 0 jobs (log_of ms) → turns ms ≤ length jobs
     → Explains view Plain (model_jobs jobs) a ms b (Ok report)
-whole_explains mach view Plain laws jobs a b ms report f plain none answers few =
+whole_explains mach view Plain laws jobs a b ms report valid f plain none answers few =
     let results = whole_results jobs (viewed view a) (viewed view b) ms f in
-    let set : All IsSome (table f.explained.state) = subst (All IsSome) (sym results) (All-from_recursion IsSome (results_from 0 (offers_from 0 jobs) (posted ms)) (all_set 0 (offers_from 0 jobs) (posted ms) none)) in
-    let whole = laws.whole f.explained.state set in
+    let whole = f.heard (all_heard jobs ms valid none) in
+    let set : AllByRecursion IsSome (results_from 0 (length jobs) (posted ms) (quieted ms)) = subst (AllByRecursion IsSome) results (recursion_from_All IsSome (table f.explained.state) (laws.set f.explained.state whole)) in
+    let quiets = are_quiets (quiet_at (quiets_at jobs)) 0 jobs (λ i. let z : 0 + i ≡ i = omega arith in (λ k. quiet_at (quiets_jobs 0 jobs k) (z k))) in
+    let last : last_is_quiet (map (λ job. job.quiet) jobs) ≡ false = ap last_is_quiet (sym (quiets_plain jobs)) ∙ loud_last 0 jobs valid in
     record {
       end = f.explained.state;
       replays = f.explained.replays;
@@ -177,7 +222,7 @@ whole_explains mach view Plain laws jobs a b ms report f plain none answers few 
       files = f.explained.files_at_end;
       report = record {
         whole = whole;
-        outcomes = answers ∙ sym (told_outcomes (replies_at jobs) 0 jobs ms (replies_first jobs) f.told) ∙ ap (replayed_outcomes (model_jobs jobs)) (sym results);
+        outcomes = answers ∙ sym (told_outcomes (replies_at jobs) (quiet_at (quiets_at jobs)) 0 jobs ms (replies_first jobs) quiets (quiets_move_none jobs valid) last f.told f.loud f.quiets set) ∙ ap (replayed_outcomes (model_jobs jobs)) (sym results);
         idle = let r = f.restful whole in record { pending = r.pending; tail = r.tail; plain = plain };
         few = subst (λ n. turns ms ≤ n) (sym (length-map jobs model_job)) few;
       };
@@ -191,20 +236,20 @@ journal_gain (Some l) p ms start journal h s j =
     told ∙ ap (λ n. map event_of (drop n (l ++ log_of ms))) s ∙ ap (map event_of) (drop-append_seam l (log_of ms))
 
 pub says_report : {W : Type 0} (mach : schedule.Machine W) (view : W → Files) (Plain : W → Type 0) {P : Type 0} (laws : ModelLaws mach view Plain) (log : P → Option (List LogEvent)) (state : P → Option (schedule.State W)) (old new : P) (jobs : List Job) (capacity bound : ℕ) (report : Report) (start : ℕ) → AllValid jobs → AllInRange jobs
-    → (d : Driven mach log state old new (offers_from 0 jobs) capacity bound) → first_strange (lends_in (offers_from 0 jobs)) nothing_seen (log_of d.moves) ≡ None
+    → (d : Driven mach log state old new (offers_from 0 jobs) capacity bound) → first_strange (lends_in (offers_from 0 jobs)) (quiets_in (offers_from 0 jobs)) nothing_seen (log_of d.moves) ≡ None
     → count_open (slots_from 0 (offers_from 0 jobs) (posted d.moves)) ≡ 0 → map (λ o. Done o) report.outcomes.items ≡ slots_from 0 (offers_from 0 jobs) (posted d.moves)
     → IfSome (log old) (λ l. start ≡ length l) → IfSome (log new) (λ l. report.journal.items ≡ map event_of (drop start l))
     → ((a : schedule.State W) → state old ≡ Some a → IsPlainAndIdle Plain a → turns d.moves ≤ length (offers_from 0 jobs))
     → RunSays mach view Plain log state old new jobs capacity bound (Ok report)
 says_report mach view Plain laws log state old new jobs capacity bound report start valid range d honest none slots at journal few =
-    let answered = answered_by jobs d.moves report.outcomes.items honest slots in
+    let answered = answered_by jobs d.moves report.outcomes.items valid none honest slots in
     record {
       ran = ran_of mach view Plain log state old new jobs capacity bound d;
       report = record { answered = answered; journal = journal_gain (log old) (log new) d.moves start report.journal.items d.logs at journal };
       fault = tt;
       memory = λ a told rests.
           let f = from_idle mach view Plain laws log state old new jobs capacity bound d valid range a told rests in
-          (f.0, f.1, whole_explains mach view Plain laws jobs a f.0 d.moves report f.2 f.3 none answered.outcomes (subst (λ n. turns d.moves ≤ n) (offers_count 0 jobs) (few a told rests)));
+          (f.0, f.1, whole_explains mach view Plain laws jobs a f.0 d.moves report valid f.2 f.3 none answered.outcomes (subst (λ n. turns d.moves ≤ n) (offers_count 0 jobs) (few a told rests)));
     }
 
 pub not_stalled : {W : Type 0} (Plain : W → Type 0) (o : Option (schedule.State W)) → IfSome o (λ a. IsPlainAndIdle Plain a → is_stall faults.NoMemory ≡ false)
@@ -212,7 +257,7 @@ not_stalled Plain None = tt
 not_stalled Plain (Some a) = λ h. refl
 
 told_either : {W : Type 0} (mach : schedule.Machine W) (view : W → Files) (Plain : W → Type 0) {P : Type 0} (laws : ModelLaws mach view Plain) (log : P → Option (List LogEvent)) (state : P → Option (schedule.State W)) (old new : P) (jobs : List Job) (capacity bound : ℕ) (start : ℕ) (slots : List Slot) (r : Result Report RunFault) → AllValid jobs → AllInRange jobs
-    → (d : Driven mach log state old new (offers_from 0 jobs) capacity bound) → count_open slots ≡ 0 → slots ≡ slots_from 0 (offers_from 0 jobs) (posted d.moves) → first_strange (lends_in (offers_from 0 jobs)) nothing_seen (log_of d.moves) ≡ None → ((a : schedule.State W) → state old ≡ Some a → IsPlainAndIdle Plain a → turns d.moves ≤ length (offers_from 0 jobs))
+    → (d : Driven mach log state old new (offers_from 0 jobs) capacity bound) → count_open slots ≡ 0 → slots ≡ slots_from 0 (offers_from 0 jobs) (posted d.moves) → first_strange (lends_in (offers_from 0 jobs)) (quiets_in (offers_from 0 jobs)) nothing_seen (log_of d.moves) ≡ None → ((a : schedule.State W) → state old ≡ Some a → IsPlainAndIdle Plain a → turns d.moves ≤ length (offers_from 0 jobs))
     → IfOk r (λ report. map (λ o. Done o) report.outcomes.items ≡ slots) → IfOk r (λ report. IfSome (log new) (λ l. report.journal.items ≡ map event_of (drop start l))) → IfErr r (λ e. e ≡ faults.NoMemory) → IfSome (log old) (λ l. start ≡ length l)
     → RunSays mach view Plain log state old new jobs capacity bound r
 told_either mach view Plain laws log state old new jobs capacity bound start slots (Ok report) valid range d none told honest few outcomes journal err at =
@@ -222,13 +267,13 @@ told_either mach view Plain laws log state old new jobs capacity bound start slo
 
 -- what a run tells by its report, or by want of memory for it
 pub says_either : {W : Type 0} (mach : schedule.Machine W) (view : W → Files) (Plain : W → Type 0) {P : Type 0} (laws : ModelLaws mach view Plain) (log : P → Option (List LogEvent)) (state : P → Option (schedule.State W)) (old new : P) (jobs : List Job) (capacity bound : ℕ) (start : ℕ) (slots : List Slot) (offers : List Offer) (r : Result Report RunFault) → AllValid jobs → AllInRange jobs → offers ≡ offers_from 0 jobs
-    → ((d : Driven mach log state old new offers capacity bound) × ((count_open slots ≡ 0) × (slots ≡ slots_from 0 offers (posted d.moves)) × (first_strange (lends_in offers) nothing_seen (log_of d.moves) ≡ None) × ((a : schedule.State W) → state old ≡ Some a → IsPlainAndIdle Plain a → turns d.moves ≤ length offers)))
+    → ((d : Driven mach log state old new offers capacity bound) × ((count_open slots ≡ 0) × (slots ≡ slots_from 0 offers (posted d.moves)) × (first_strange (lends_in offers) (quiets_in offers) nothing_seen (log_of d.moves) ≡ None) × ((a : schedule.State W) → state old ≡ Some a → IsPlainAndIdle Plain a → turns d.moves ≤ length offers)))
     → IfOk r (λ report. map (λ o. Done o) report.outcomes.items ≡ slots) → IfOk r (λ report. IfSome (log new) (λ l. report.journal.items ≡ map event_of (drop start l))) → IfErr r (λ e. e ≡ faults.NoMemory)
     → IfSome (log old) (λ l. start ≡ length l)
     → RunSays mach view Plain log state old new jobs capacity bound r
 says_either {W = W} mach view Plain laws log state old new jobs capacity bound start slots offers r valid range same run outcomes journal err at =
-    let whole : (d : Driven mach log state old new (offers_from 0 jobs) capacity bound) × ((count_open slots ≡ 0) × (slots ≡ slots_from 0 (offers_from 0 jobs) (posted d.moves)) × (first_strange (lends_in (offers_from 0 jobs)) nothing_seen (log_of d.moves) ≡ None) × ((a : schedule.State W) → state old ≡ Some a → IsPlainAndIdle Plain a → turns d.moves ≤ length (offers_from 0 jobs))) =
-    subst (λ o. (d : Driven mach log state old new o capacity bound) × ((count_open slots ≡ 0) × (slots ≡ slots_from 0 o (posted d.moves)) × (first_strange (lends_in o) nothing_seen (log_of d.moves) ≡ None) × ((a : schedule.State W) → state old ≡ Some a → IsPlainAndIdle Plain a → turns d.moves ≤ length o))) same run in
+    let whole : (d : Driven mach log state old new (offers_from 0 jobs) capacity bound) × ((count_open slots ≡ 0) × (slots ≡ slots_from 0 (offers_from 0 jobs) (posted d.moves)) × (first_strange (lends_in (offers_from 0 jobs)) (quiets_in (offers_from 0 jobs)) nothing_seen (log_of d.moves) ≡ None) × ((a : schedule.State W) → state old ≡ Some a → IsPlainAndIdle Plain a → turns d.moves ≤ length (offers_from 0 jobs))) =
+    subst (λ o. (d : Driven mach log state old new o capacity bound) × ((count_open slots ≡ 0) × (slots ≡ slots_from 0 o (posted d.moves)) × (first_strange (lends_in o) (quiets_in o) nothing_seen (log_of d.moves) ≡ None) × ((a : schedule.State W) → state old ≡ Some a → IsPlainAndIdle Plain a → turns d.moves ≤ length o))) same run in
     told_either mach view Plain laws log state old new jobs capacity bound start slots r valid range whole.0 whole.1.0 whole.1.1 whole.1.2 whole.1.3 outcomes journal err at
 
 -- the log's length is where its gain begins

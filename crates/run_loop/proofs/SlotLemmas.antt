@@ -13,22 +13,22 @@ count_of_open_slots [] = refl
 count_of_open_slots (job ∷ jobs) = ap suc (count_of_open_slots jobs)
 
 -- an open slot that is done is one less
-pub count_of_done : (slots : List Slot) (j : ℕ) (reply : Reply) (o : Outcome) → slice_get slots j ≡ Some (Open reply) → count_open slots ≡ suc (count_open (slice_set slots j (Done o)))
-count_of_done [] j reply o e = cc
-count_of_done (Open l ∷ slots) zero reply o e = refl
-count_of_done (Done d ∷ slots) zero reply o e = cc
-count_of_done (Open l ∷ slots) (suc j) reply o e = ap suc (count_of_done slots j reply o e)
-count_of_done (Done d ∷ slots) (suc j) reply o e = count_of_done slots j reply o e
+pub count_of_done : (slots : List Slot) (j : ℕ) (reply : Reply) (quiet : Bool) (o : Outcome) → slice_get slots j ≡ Some (Open reply quiet) → count_open slots ≡ suc (count_open (slice_set slots j (Done o)))
+count_of_done [] j reply quiet o e = cc
+count_of_done (Open l q ∷ slots) zero reply quiet o e = refl
+count_of_done (Done d ∷ slots) zero reply quiet o e = cc
+count_of_done (Open l q ∷ slots) (suc j) reply quiet o e = ap suc (count_of_done slots j reply quiet o e)
+count_of_done (Done d ∷ slots) (suc j) reply quiet o e = count_of_done slots j reply quiet o e
 
 or_parts : (a b : Bool) → (a || b) ≡ false → (a ≡ false) × (b ≡ false)
 or_parts true b e = cc
 or_parts false b e = (refl, e)
 
-open_at : (slot : Option Slot) (c : Completion) → is_strange_at slot c ≡ false → (reply : Reply) × (slot ≡ Some (Open reply))
+open_at : (slot : Option Slot) (c : Completion) → is_strange_at slot c ≡ false → (reply : Reply) × (quiet : Bool) × (slot ≡ Some (Open reply quiet))
 open_at None c e = cc
 open_at (Some (Done o)) c e = cc
-open_at (Some (Open reply)) c e = (reply, refl)
+open_at (Some (Open reply quiet)) c e = (reply, quiet, refl)
 
 -- a completion that is no stranger finds its job started and open
-pub due_open : (started : ℕ) (slots : List Slot) (c : Completion) → is_unexpected started slots c ≡ false → (reply : Reply) × (slice_get slots c.user_data ≡ Some (Open reply))
+pub due_open : (started : ℕ) (slots : List Slot) (c : Completion) → is_unexpected started slots c ≡ false → (reply : Reply) × (quiet : Bool) × (slice_get slots c.user_data ≡ Some (Open reply quiet))
 due_open started slots c e = open_at (slice_get slots c.user_data) c (or_parts (not (nat_lt c.user_data started)) (is_strange_at (slice_get slots c.user_data) c) e).1

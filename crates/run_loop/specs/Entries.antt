@@ -1,7 +1,7 @@
 -- The entry and the loan that each job becomes.
-use Rattle.std.specs.Prelude.{◌≡◌, ℕ, zero, suc, ◌+◌, ◌<◌, ◌^◌, Bool, true, if◌then◌else◌, List, [], ◌∷◌, length, map, bit_or, Option, Some, None}
+use Rattle.std.specs.Prelude.{◌≡◌, ℕ, zero, suc, ◌+◌, ◌<◌, ◌^◌, Bool, true, if◌then◌else◌, nat_eq, List, [], ◌∷◌, length, map, bit_or, Option, Some, None}
 use Rattle.uring_base.specs.FlagBits.{bits_in}
-use Rattle.uring_base.specs.declared.flags.TheConstants.Flags.{IO_DRAIN, IO_LINK, IO_HARDLINK}
+use Rattle.uring_base.specs.declared.flags.TheConstants.Flags.{IO_DRAIN, IO_LINK, IO_HARDLINK, SKIP_SUCCESS}
 use Rattle.uring_base.specs.declared.squeue.Entry.{Entry}
 use Rattle.uring_base.specs.declared.buffer.Loan.{Loan}
 use Rattle.uring_base.specs.declared.events.Taken.{Taken}
@@ -28,9 +28,12 @@ job_words j (Fsync file) = fsync_words (new_fsync (Fixed file))
 job_words j (Ftruncate file len) = ftruncate_words (new_ftruncate (Fixed file) len)
 job_words j (Cancel job) = async_cancel_words (new_async_cancel job)
 
--- the flag IO_DRAIN for a drained job, and IO_LINK or IO_HARDLINK for a linked one
+-- the flag IO_DRAIN for a drained job, SKIP_SUCCESS for a quiet one, and IO_LINK or IO_HARDLINK for a linked one
 abbrev pub with_drain : Bool → Entry → Entry
 with_drain drain e = if drain then record e { flags = bit_or e.flags (bits_in IO_DRAIN) } else e
+
+abbrev pub with_quiet : Bool → Entry → Entry
+with_quiet quiet e = if quiet then record e { flags = bit_or e.flags (bits_in SKIP_SUCCESS) } else e
 
 abbrev pub with_link : Link → Entry → Entry
 with_link Free e = e
@@ -38,7 +41,7 @@ with_link Soft e = record e { flags = bit_or e.flags (bits_in IO_LINK) }
 with_link Hard e = record e { flags = bit_or e.flags (bits_in IO_HARDLINK) }
 
 abbrev pub job_entry : ℕ → Job → Entry
-job_entry j job = record (with_link job.link (with_drain job.drain (job_words j job.kind))) { user_data = j }
+job_entry j job = record (with_link job.link (with_quiet job.quiet (with_drain job.drain (job_words j job.kind)))) { user_data = j }
 
 abbrev pub job_loan : ℕ → JobKind → Option Loan
 job_loan j Nop = None
@@ -49,7 +52,7 @@ job_loan j (Ftruncate file len) = None
 job_loan j (Cancel job) = None
 
 abbrev pub offer_of : ℕ → Job → Offer
-offer_of j job = record { entry = job_entry j job; loan = job_loan j job.kind; reply = reply_for job.kind }
+offer_of j job = record { entry = job_entry j job; loan = job_loan j job.kind; reply = reply_for job.kind; quiet = job.quiet }
 
 abbrev pub unlinked_if : Bool → Job → Job
 unlinked_if is_last job = record job { link = if is_last then Free else job.link }
@@ -81,15 +84,23 @@ lends_in offers j = lends (reply_in offers j)
 abbrev pub lends_at : List Job → ℕ → Bool
 lends_at jobs = lends_in (offers_from 0 jobs)
 
--- each job is valid
+-- which of the offers are quiet, and which of the jobs
+
+abbrev pub quiets_in : List Offer → List Bool
+quiets_in offers = map (λ o. o.quiet) offers
+
+abbrev pub quiets_at : List Job → List Bool
+quiets_at jobs = quiets_in (offers_from 0 jobs)
+
+-- each job is valid at its place
 abbrev pub AllValid : List Job → Type 0
 AllValid [] = Unit {0}
-AllValid (job ∷ jobs) = (is_valid_job (model_job job) ≡ true) × AllValid jobs
+AllValid (job ∷ jobs) = (is_valid_job (nat_eq (length jobs) 0) (model_job job) ≡ true) × AllValid jobs
 
 -- the first job that isn't valid, counted from n
 abbrev pub first_bad : ℕ → List Job → Option ℕ
 first_bad n [] = None
-first_bad n (job ∷ jobs) = if is_valid_job (model_job job) then first_bad (n + 1) jobs else Some n
+first_bad n (job ∷ jobs) = if is_valid_job (nat_eq (length jobs) 0) (model_job job) then first_bad (n + 1) jobs else Some n
 
 -- a file's number has 32 bits
 abbrev pub IsInRange : JobKind → Type 0

@@ -1,5 +1,5 @@
 -- What one round of a run does to the ring, the partner and the table.
-use Rattle.std.specs.Prelude.{◌≡◌, ◌≤◌, ◌⊎◌, ℕ, Bool, true, false, List, [], ◌++◌, length, map, Result, Ok, Err, Option, Some, None}
+use Rattle.std.specs.Prelude.{◌≡◌, ◌≤◌, ◌⊎◌, ◌||◌, nat_lt, ℕ, Bool, true, false, List, [], ◌++◌, length, map, Result, Ok, Err, Option, Some, None}
 use Rattle.std.specs.Bool.{OnTrue}
 use Rattle.uring_base.specs.declared.events.Taken.{Taken}
 use Rattle.uring_base.specs.declared.events.Completion.{Completion}
@@ -70,15 +70,19 @@ is_refusal Stalled = false
 is_refusal PartnerFault = false
 is_refusal NoMemory = false
 
--- how a round ends, by the completions that stood in the ring
-abbrev pub RoundEnds : ℕ → List Slot → List Completion → List Slot → Bool → Result Bool RunFault → Type 0
-RoundEnds started slots cs slots' entered (Ok fin) = (entered ≡ true) × (stranger_among started slots cs ≡ None) × (slots' ≡ land_all slots cs) × (fin ≡ any_final cs)
-RoundEnds started slots cs slots' entered (Err (Stranger u)) = (entered ≡ true) × (stranger_among started slots cs ≡ Some u)
-RoundEnds started slots cs slots' entered (Err PartnerFault) = Unit {0}
-RoundEnds started slots cs slots' entered (Err NoMemory) = Unit {0}
-RoundEnds started slots cs slots' entered (Err BadSize) = ⊥
-RoundEnds started slots cs slots' entered (Err (BadJob n)) = ⊥
-RoundEnds started slots cs slots' entered (Err Stalled) = ⊥
+-- an entry was taken, or a completion was final: the round wasn't idle
+abbrev pub goes_on : List Taken → List Completion → Bool
+goes_on ts cs = nat_lt 0 (length ts) || any_final cs
+
+-- how a round ends, by the entries that were taken and the completions that stood in the ring
+abbrev pub RoundEnds : ℕ → List Slot → List Taken → List Completion → List Slot → Bool → Result Bool RunFault → Type 0
+RoundEnds started slots ts cs slots' entered (Ok went) = (entered ≡ true) × (stranger_among started slots cs ≡ None) × (slots' ≡ land_all slots cs) × (went ≡ goes_on ts cs)
+RoundEnds started slots ts cs slots' entered (Err (Stranger u)) = (entered ≡ true) × (stranger_among started slots cs ≡ Some u)
+RoundEnds started slots ts cs slots' entered (Err PartnerFault) = Unit {0}
+RoundEnds started slots ts cs slots' entered (Err NoMemory) = Unit {0}
+RoundEnds started slots ts cs slots' entered (Err BadSize) = ⊥
+RoundEnds started slots ts cs slots' entered (Err (BadJob n)) = ⊥
+RoundEnds started slots ts cs slots' entered (Err Stalled) = ⊥
 
 -- A round offers entries until the ring is full or none is left, publishes, enters once, over all that is published, and
 -- reaps all that was posted.
@@ -105,4 +109,4 @@ pub record Round {W : Type 0} (mach : schedule.Machine W) {P R : Type 0} (log : 
   pub pushed : after.pushed ≡ []
   pub capacity : after.capacity ≡ at.capacity
   pub completion_capacity : after.completion_capacity ≡ at.completion_capacity
-  pub ends : RoundEnds started slots (map kept (posted ms)) slots' entered answer
+  pub ends : RoundEnds started slots (took ms) (map kept (posted ms)) slots' entered answer

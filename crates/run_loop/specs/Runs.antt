@@ -1,5 +1,5 @@
 -- What a run of jobs promises over every partner.
-use Rattle.std.specs.Prelude.{◌≡◌, ℕ, ◌+◌, ◌*◌, ◌≤◌, ◌<◌, true, if◌then◌else◌, List, [], ◌∷◌, ◌++◌, length, map, Result, Option, Some, None, IfOk, IfErr, IfSome}
+use Rattle.std.specs.Prelude.{◌≡◌, ℕ, ◌+◌, ◌*◌, ◌≤◌, ◌<◌, true, false, if◌then◌else◌, List, [], ◌∷◌, ◌++◌, length, map, Result, Option, Some, None, IfOk, IfErr, IfSome}
 use Rattle.std.specs.Option.{option_map}
 use Rattle.uring_base.specs.declared.events.Taken.{Taken}
 use Rattle.uring_base.specs.declared.events.LogEvent.{LogEvent}
@@ -17,14 +17,14 @@ use Rattle.uring_model.specs.Schedule as schedule
 use Rattle.uring_model.specs.Refines.{IsPlainAndIdle}
 use Rattle.uring_model.specs.Progress.{turns}
 use Rattle.uring_model.specs.Honest.{TakesWithinTurns}
-use Rattle.uring_model.specs.Strange.{nothing_seen, first_strange}
-use Rattle.run_loop.specs.Entries.{entries_from, lends_at, first_bad}
+use Rattle.uring_model.specs.Strange.{nothing_seen, first_strange, is_answered, ended_in}
+use Rattle.run_loop.specs.Entries.{entries_from, lends_at, quiets_at, first_bad}
 use Rattle.run_loop.specs.Memory.{Explains}
-use Rattle.run_loop.specs.Told.{first_final, idle_turns, reply_for, outcome_from}
+use Rattle.run_loop.specs.Told.{first_final, idle_turns, reply_for, outcome_by, first_is_some}
 
 -- What the partner did in a run, whatever its answer: `moves` are what its log and its state gained, where it tells them.
 -- It took the jobs' entries in their order; each turn began with the ring full or all jobs pushed, and took no more
--- than its number; and there were at most `idle` turns a job.
+-- than its number; and there were at most `idle` turns twice a job.
 pub record Ran {W : Type 0} (mach : schedule.Machine W) {P : Type 0} (log : P → Option (List LogEvent)) (state : P → Option (schedule.State W)) (old new : P) (jobs : List Job) (capacity idle : ℕ) : Type 0 where
   pub moves : List Move
   pub ahead : List Taken
@@ -33,28 +33,29 @@ pub record Ran {W : Type 0} (mach : schedule.Machine W) {P : Type 0} (log : P �
   pub entries : took moves ++ ahead ≡ entries_from 0 jobs
   pub busy : IsBusy capacity (length jobs) 0 (journal_of (log_of moves))
   pub within : TakesWithinTurns 0 moves
-  pub few : turns moves ≤ idle * length jobs
+  pub few : turns moves ≤ idle * (2 * length jobs)
 
--- what the first final posts tell of the jobs, counted from n
+-- what the first final posts tell of the jobs, counted from n: those of its own, and, of a quiet one without, that of the next
 abbrev pub outcomes_from : ℕ → List Job → List LogEvent → List (Option Outcome)
 outcomes_from n [] log = []
-outcomes_from n (job ∷ jobs) log = option_map (outcome_from (reply_for job.kind)) (first_final n log) ∷ outcomes_from (n + 1) jobs log
+outcomes_from n (job ∷ jobs) log = outcome_by job.quiet (reply_for job.kind) (first_final n log) (first_is_some (outcomes_from (n + 1) jobs log)) ∷ outcomes_from (n + 1) jobs log
 
--- No post of the log is strange, and each job has the outcome that its first final post tells.
+-- No post of the log is strange, each job is answered, and has the outcome that the first final posts tell.
 pub record IsAnswered (jobs : List Job) (log : List LogEvent) (answers : List Outcome) : Type 0 where
-  pub expected : first_strange (lends_at jobs) nothing_seen log ≡ None
+  pub expected : first_strange (lends_at jobs) (quiets_at jobs) nothing_seen log ≡ None
+  pub answered : (j : ℕ) → j < length jobs → is_answered (quiets_at jobs) (ended_in log) j ≡ true
   pub outcomes : map (λ o. Some o) answers ≡ outcomes_from 0 jobs log
 
--- Some job has no final post, and none stands behind the last `idle` turns.
+-- Some job isn't answered, and neither a take nor a final post stands behind the last `idle` turns.
 pub record IsStalled (jobs : List Job) (idle : ℕ) (log : List LogEvent) : Type 0 where
   pub idled : idle ≤ idle_turns 0 log
   pub job : ℕ
   pub inside : job < length jobs
-  pub unanswered : first_final job log ≡ None
+  pub unanswered : is_answered (quiets_at jobs) (ended_in log) job ≡ false
 
 -- what a fault says of the log
 abbrev pub IsFaulted : List Job → ℕ → List LogEvent → RunFault → Type 0
-IsFaulted jobs idle log (Stranger u) = first_strange (lends_at jobs) nothing_seen log ≡ Some u
+IsFaulted jobs idle log (Stranger u) = first_strange (lends_at jobs) (quiets_at jobs) nothing_seen log ≡ Some u
 IsFaulted jobs idle log Stalled = IsStalled jobs idle log
 IsFaulted jobs idle log PartnerFault = Unit {0}
 IsFaulted jobs idle log NoMemory = Unit {0}

@@ -4,21 +4,20 @@ use Rattle.uring_base.specs.declared.events.Completion.{Completion}
 use Rattle.uring_base.specs.Completions.{is_final}
 use Rattle.uring_model.specs.Strange.{has_other_number, has_wrong_loan}
 use Rattle.uring_model.specs.declared.jobs.Job.{Job}
-use Rattle.run_loop.specs.Told.{Ending, reply_for, lends, outcome_from}
+use Rattle.run_loop.specs.Told.{Ending, reply_for, lends, outcome_from, unposted}
 use Rattle.run_loop.specs.declared.entries.Offer.{Offer}
-use Rattle.run_loop.specs.declared.slot.Reply.{Reply}
 use Rattle.run_loop.specs.declared.slot.Slot.{Slot}
 use Rattle.run_loop.specs.declared.slot.Slot.TheVariants.{Open, Done}
 
 abbrev pub count_open : List Slot → ℕ
 count_open [] = 0
-count_open (Open reply ∷ slots) = suc (count_open slots)
+count_open (Open reply quiet ∷ slots) = suc (count_open slots)
 count_open (Done outcome ∷ slots) = count_open slots
 
 abbrev pub is_strange_at : Option Slot → Completion → Bool
 is_strange_at None c = true
 is_strange_at (Some (Done outcome)) c = true
-is_strange_at (Some (Open reply)) c = has_other_number c.user_data c.loan || has_wrong_loan (lends reply) (is_final c.flags) c.loan
+is_strange_at (Some (Open reply quiet)) c = has_other_number c.user_data c.loan || has_wrong_loan (lends reply) (is_final c.flags) c.loan
 
 -- a completion that no started and open job is due
 abbrev pub is_unexpected : ℕ → List Slot → Completion → Bool
@@ -27,20 +26,35 @@ is_unexpected started slots c = not (nat_lt c.user_data started) || is_strange_a
 -- the slots before the run
 
 abbrev pub open_slot : Job → Slot
-open_slot job = Open (reply_for job.kind)
+open_slot job = Open (reply_for job.kind) job.quiet
 
 abbrev pub open_slots : List Job → List Slot
 open_slots jobs = map open_slot jobs
 
--- a final completion gives its job an outcome
+-- a quiet job without an outcome has one as soon as the next job has
+
+abbrev pub first_is_done : List Slot → Bool
+first_is_done [] = false
+first_is_done (Open reply quiet ∷ slots) = false
+first_is_done (Done outcome ∷ slots) = true
+
+abbrev pub closed_slot : Slot → Bool → Slot
+closed_slot (Open reply quiet) next = cond (quiet && next) (Done unposted) (Open reply quiet)
+closed_slot (Done outcome) next = Done outcome
+
+abbrev pub all_closed : List Slot → List Slot
+all_closed [] = []
+all_closed (slot ∷ slots) = closed_slot slot (first_is_done (all_closed slots)) ∷ all_closed slots
+
+-- a final completion gives its job an outcome, and so the quiet ones in front of it
 
 abbrev pub land_in : Option Slot → List Slot → ℕ → Ending → List Slot
 land_in None slots n e = slots
 land_in (Some (Done outcome)) slots n e = slots
-land_in (Some (Open reply)) slots n e = slice_set slots n (Done (outcome_from reply e))
+land_in (Some (Open reply quiet)) slots n e = slice_set slots n (Done (outcome_from reply e))
 
 abbrev pub land_one : List Slot → Completion → List Slot
-land_one slots c = if is_final c.flags then land_in (slice_get slots c.user_data) slots c.user_data (record { result = c.result; loan = c.loan }) else slots
+land_one slots c = if is_final c.flags then all_closed (land_in (slice_get slots c.user_data) slots c.user_data (record { result = c.result; loan = c.loan })) else slots
 
 abbrev pub land_all : List Slot → List Completion → List Slot
 land_all slots [] = slots
@@ -60,11 +74,15 @@ abbrev pub final_of : ℕ → List Completion → Option Ending
 final_of j [] = None
 final_of j (c ∷ cs) = cond (is_final c.flags && nat_eq c.user_data j) (Some (record { result = c.result; loan = c.loan })) (final_of j cs)
 
-abbrev pub told_slot : Reply → Option Ending → Slot
-told_slot reply None = Open reply
-told_slot reply (Some e) = Done (outcome_from reply e)
+abbrev pub own_slot : Offer → Option Ending → Slot
+own_slot offer None = Open offer.reply offer.quiet
+own_slot offer (Some e) = Done (outcome_from offer.reply e)
+
+-- the slots of the offers, counted from n, by what these completions say of each by itself
+abbrev pub own_slots : ℕ → List Offer → List Completion → List Slot
+own_slots n [] cs = []
+own_slots n (offer ∷ offers) cs = own_slot offer (final_of n cs) ∷ own_slots (n + 1) offers cs
 
 -- the slots of the offers, counted from n, after these completions
 abbrev pub slots_from : ℕ → List Offer → List Completion → List Slot
-slots_from n [] cs = []
-slots_from n (offer ∷ offers) cs = told_slot offer.reply (final_of n cs) ∷ slots_from (n + 1) offers cs
+slots_from n offers cs = all_closed (own_slots n offers cs)

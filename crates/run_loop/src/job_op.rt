@@ -1,5 +1,6 @@
 //! A job's operation.
 
+use crate::slot::Reply;
 use rent_engine::OpKey;
 use rent_fs::{ReadAt, Sync, WriteAt};
 use uring_model::Outcome;
@@ -10,7 +11,8 @@ pub enum JobOp {
     Read(ReadAt),
     Write(WriteAt),
     Sync(Sync),
-    Plain(OpKey),
+    /// An operation of the engine itself, and what its outcome tells.
+    Plain(OpKey, Reply),
 }
 
 /// What comes of polling a job's operation.

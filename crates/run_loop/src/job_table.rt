@@ -26,13 +26,13 @@ pub struct JobTable {
 }
 
 impl JobTable {
-    ghost use Rattle.std.specs.Prelude.{◌≡◌, ◌+◌, ◌<◌, ◌↔◌, ◌++◌, ◌∷◌, [], IsTrue, IfOk, OnOk, IfSome, Some, ℕ, map, slice_get, slice_set};
+    ghost use Rattle.std.specs.Prelude.{◌≡◌, ◌+◌, ◌<◌, ◌↔◌, ◌++◌, ◌∷◌, [], IsTrue, IfOk, OnOk, IfSome, Some, ℕ, Bool, map, slice_get, slice_set};
     ghost use Rattle.std.specs.List.{AllByRecursion};
     ghost use Rattle.rent_table.specs.Ops.{done_at, taken_out};
     ghost use Rattle.rent_engine.specs.Ops.{polled};
     ghost use Rattle.run_loop.specs.Slots.{open_slots};
     ghost use Rattle.run_loop.specs.Flights.{AreOperated, NoneResolved, all_polled, with_polled, left_by, jobs_in_flight, AreReplied};
-    ghost use Rattle.run_loop.specs.JobOps.{key_of, reply_of};
+    ghost use Rattle.run_loop.specs.JobOps.{key_of, reply_of, TellsFor};
     ghost use Rattle.run_loop.specs.declared.slot.Reply.{Reply};
     ghost use Rattle.run_loop.specs.Steps.{CanBePolled};
 
@@ -67,7 +67,7 @@ impl JobTable {
         while let Some(slot) = left.pop_front() {
             match slot {
                 Slot::Done(outcome) => outcomes.push(outcome)?,
-                Slot::Open(_) => unreachable!(),
+                Slot::Open { .. } => unreachable!(),
             }
         }
         Ok(outcomes)
@@ -80,7 +80,7 @@ impl JobTable {
         ensures started { OnOk result (self.new.started ≡ self.old.started + 1) }
         ensures slots { self.new.slots.items ≡ self.old.slots.items }
         ensures in_flight { OnOk result (jobs_in_flight self.new.in_flight.items ≡ jobs_in_flight self.old.in_flight.items ++ self.old.started ∷ []) }
-        ensures replied { AreReplied self.old.slots.items self.old.in_flight.items → slice_get self.old.slots.items self.old.started ≡ Some (Slot.Open (reply_of op)) → OnOk result (AreReplied self.new.slots.items self.new.in_flight.items) }
+        ensures replied { (reply : Reply) (quiet : Bool) → AreReplied self.old.slots.items self.old.in_flight.items → slice_get self.old.slots.items self.old.started ≡ Some (Slot.Open reply quiet) → TellsFor reply quiet op → OnOk result (AreReplied self.new.slots.items self.new.in_flight.items) }
     {
         let job = self.started;
         self.in_flight.push_back(InFlight { job, op })?;
@@ -89,7 +89,7 @@ impl JobTable {
     }
 
     fn finish(&mut self, place: usize, outcome: Outcome)
-        requires { (reply : Reply) × (slice_get self.old.slots.items place ≡ Some (Slot.Open reply)) }
+        requires { (reply : Reply) × (quiet : Bool) × (slice_get self.old.slots.items place ≡ Some (Slot.Open reply quiet)) }
         ensures slots { self.new.slots.items ≡ slice_set self.old.slots.items place (Slot.Done outcome) }
         ensures started { self.new.started ≡ self.old.started }
         ensures in_flight { self.new.in_flight.items ≡ self.old.in_flight.items }
@@ -107,14 +107,14 @@ impl JobTable {
         flight: InFlight,
     ) -> Result<(), AllocError>
         requires polls { CanBePolled engine.old.ops flight.job flight.op }
-        requires resolved { IfSome (done_at engine.old.ops flight.job) (λ _. slice_get self.old.slots.items flight.job ≡ Some (Slot.Open (reply_of flight.op))) }
+        requires resolved { IfSome (done_at engine.old.ops flight.job) (λ _. (quiet : Bool) × (slice_get self.old.slots.items flight.job ≡ Some (Slot.Open (reply_of flight.op) quiet))) }
         ensures lists { R.lists engine.new.ring ≡ R.lists engine.old.ring }
         ensures room { R.room engine.new.ring ≡ R.room engine.old.ring }
         ensures ops { engine.new.ops ≡ taken_out flight.job engine.old.ops }
         ensures slots { self.new.slots.items ≡ with_polled (reply_of flight.op) flight.job (polled engine.old.ops flight.job) self.old.slots.items }
         ensures started { self.new.started ≡ self.old.started }
         ensures in_flight { OnOk result (jobs_in_flight self.new.in_flight.items ≡ jobs_in_flight self.old.in_flight.items ++ left_by (polled engine.old.ops flight.job) flight.job) }
-        ensures replied { (replies : ℕ → Reply) → AllByRecursion (λ f. reply_of f.op ≡ replies f.job) self.old.in_flight.items → reply_of flight.op ≡ replies flight.job → OnOk result (AllByRecursion (λ f. reply_of f.op ≡ replies f.job) self.new.in_flight.items) }
+        ensures replied { (replies : ℕ → Reply) (quiets : ℕ → Bool) → AllByRecursion (λ f. TellsFor (replies f.job) (quiets f.job) f.op) self.old.in_flight.items → TellsFor (replies flight.job) (quiets flight.job) flight.op → OnOk result (AllByRecursion (λ f. TellsFor (replies f.job) (quiets f.job) f.op) self.new.in_flight.items) }
     {
         let InFlight { job, op } = flight;
         match poll_job(alloc, engine, op) {
@@ -155,7 +155,10 @@ impl JobTable {
 fn open_slot(job: &Job) -> Slot
     ensures { result ≡ open_slot job.now }
 {
-    Slot::Open(reply_for(&job.kind))
+    Slot::Open {
+        reply: reply_for(&job.kind),
+        quiet: job.quiet,
+    }
 }
 
 fn all_open(alloc: Global, jobs: &[Job]) -> Result<Vec<Slot>, AllocError>

@@ -1,6 +1,6 @@
 //! What is still to be offered.
 
-ghost use Rattle.std.specs.Prelude.{◌≡◌, ◌∷◌, [], true, MatchOption, IfSome};
+ghost use Rattle.std.specs.Prelude.{◌≡◌, ◌∷◌, ◌+◌, ◌<◌, ◌^◌, [], true, false, MatchOption, IfSome};
 ghost use Rattle.uring_model.specs.Jobs.{model_job, is_valid_job};
 ghost use Rattle.run_loop.specs.Entries.{AllValid, offer_of, offers_from};
 
@@ -52,7 +52,8 @@ impl OfferQueue {
     /// Takes the job in front, if one is left; the last one has no link.
     pub fn pop_front(&mut self) -> Option<Due>
         ensures front { MatchOption result ((self.old ≡ []) × (self.new ≡ [])) (λ due. self.old ≡ offer_of due.number due.job ∷ self.new) }
-        ensures valid { IfSome result (λ due. is_valid_job (model_job due.job) ≡ true) }
+        ensures valid { IfSome result (λ due. is_valid_job false (model_job due.job) ≡ true) }
+        ensures bound { IfSome result (λ due. due.number + 1 < 2 ^ 64) }
     {
         let job = self.jobs.pop_front()?;
         let number = self.number;

@@ -1,6 +1,6 @@
 //! One round of a run.
 
-ghost use Rattle.std.specs.Prelude.{◌≡◌, ◌+◌, ◌⊎◌, ◌<◌, ◌≤◌, ◌++◌, ◌∷◌, [], List, Some, IfOk, IfErr, IfSome, OnOk, IsTrue, Contains, true, ℕ, length, vec_len};
+ghost use Rattle.std.specs.Prelude.{◌≡◌, ◌+◌, ◌⊎◌, ◌<◌, ◌≤◌, ◌^◌, ◌++◌, ◌∷◌, ◌||◌, nat_lt, [], List, Some, IfOk, IfErr, IfSome, OnOk, IsTrue, Contains, true, false, ℕ, length, vec_len};
 ghost use Rattle.uring_base.specs.declared.events.Taken.{Taken};
 ghost use Rattle.uring_base.specs.Causes.{HasCause};
 ghost use Rattle.ring_traits.specs.Lists.{Lists, Becomes, small};
@@ -13,7 +13,7 @@ use crate::job_table::JobTable;
 use crate::offers::{Due, OfferQueue};
 use crate::starts::start_job;
 use partner_traits::Partner;
-use rent_engine::{Engine, EngineFault};
+use rent_engine::{Engine, EngineFault, TurnReport};
 use ring_traits::{PartnerSide, UserEnds};
 use std::alloc::Global;
 use uring_model::RunFault;
@@ -28,7 +28,8 @@ fn start<R: UserEnds>(
     requires operated { AreOperated engine.old.ops table.old.started table.old.slots.items (jobs_in_flight table.old.in_flight.items) }
     requires replied { AreReplied table.old.slots.items table.old.in_flight.items }
     requires none { NoneResolved engine.old.ops }
-    requires valid { is_valid_job (model_job next.job) ≡ true }
+    requires valid { is_valid_job false (model_job next.job) ≡ true }
+    requires bound { next.number + 1 < 2 ^ 64 }
     requires ahead { IsAhead table.old.started table.old.slots.items (offer_of next.number next.job) }
     requires room { 0 < R.room engine.old.ring }
     requires inside { table.old.started < vec_len table.old.slots }
@@ -88,9 +89,16 @@ fn as_run_fault(fault: EngineFault) -> RunFault
     }
 }
 
+/// Whether an entry was taken in a turn, or a completion was final.
+fn goes_on(report: &TurnReport) -> bool
+    ensures { result ≡ (nat_lt 0 report.now.taken || nat_lt 0 report.now.finals) }
+{
+    report.taken > 0 || report.finals > 0
+}
+
 /// Starts jobs until the ring is full or none is left, takes one turn with the partner, and polls
-/// each job in flight. Answers whether a completion was final. Where memory lacks for a start,
-/// the partner isn't called.
+/// each job in flight. Answers whether an entry was taken or a completion was final. Where memory
+/// lacks for a start, the partner isn't called.
 pub fn round<R: UserEnds + PartnerSide, P: Partner>(
     alloc: Global,
     engine: &mut Engine<R>,
@@ -121,5 +129,5 @@ pub fn round<R: UserEnds + PartnerSide, P: Partner>(
     if table.poll_all(alloc, engine).is_err() {
         return Err(RunFault::NoMemory);
     }
-    Ok(report.finals > 0)
+    Ok(goes_on(&report))
 }

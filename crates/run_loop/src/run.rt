@@ -119,7 +119,7 @@ fn is_valid_size(sq: u32, cq: u32) -> bool
 /// full or none is left, and then takes a turn, until all have settled; an empty list takes no
 /// turn. `sq` is 1 to 32768 and `cq` 1 to 65536; both are rounded up to powers of two, and then
 /// `cq` is at least `sq`. Positions begin at `start`. It gives up as `Stalled` where `idle` turns
-/// in a row had no final post.
+/// in a row had neither a take nor a final post.
 pub fn run_jobs<P: Partner>(
     alloc: Global,
     sq: u32,

@@ -30,6 +30,7 @@ pub fn reply_for(kind: &JobKind) -> Reply
 /// Where a job stands: it has no outcome yet, or it has one.
 #[derive(Drop)]
 pub enum Slot {
-    Open(Reply),
+    /// What its outcome will tell, and whether the job is quiet.
+    Open { reply: Reply, quiet: bool },
     Done(Outcome),
 }

@@ -14,7 +14,7 @@ use Rattle.run_loop.specs.declared.slot.Slot.{Slot}
 use Rattle.run_loop.specs.Slots.{count_open}
 use Rattle.run_loop.specs.Driven.{Driven, IsGivenUp}
 use Rattle.run_loop.proofs.Posts.{slots-length}
-use Rattle.run_loop.proofs.Running.{Running, few_open, running_first, running_next, running_ran, next_faulted, next_count, stalled_end, whole_end, some_open, left_open, if_some, slots_stay, smaller, idled_below, next_of}
+use Rattle.run_loop.proofs.Running.{Running, few_open, running_first, running_next, running_ran, next_faulted, next_smaller, prompt_end, stalled_end, whole_end, some_open, left_open, if_some, slots_stay, smaller, idled_below, next_of}
 use Rattle.run_loop.proofs.drive.drive.Goals as goal
 
 -- with nothing planned at first, one more round leaves the count of faults as the rounds before it did
@@ -32,7 +32,7 @@ rounds-init g c =
     let slots = c.requires.slots in
     let size = subst (λ o. IfSome o (λ l. (g.R.UserEnds.entries_fit c.args.engine.now.ring ≡ l.capacity) × (g.R.UserEnds.completions_fit c.args.engine.now.ring ≡ l.completion_capacity))) e.1 (g.met.R.UserEnds.sizes c.args.engine.now.ring) in
     let count : length c.args.table.now.slots.items ≡ length c.args.todo.now = ap length slots.0 ∙ slots-length 0 c.args.todo.now [] in (
-      running_first _ _ _ _ _ _ _ _ _ _ _ _ c.args.todo.now _ _ c.model_laws.ensures e.0 e.1 e.2 e.3 (sym size.0) refl slots.0 slots.1 (subst (λ k. 0 < k) size.0 h.0, subst (λ k. 0 < k) size.1 h.1) c.requires.six,
+      running_first _ _ _ _ _ _ _ _ _ _ _ _ c.args.todo.now _ _ c.model_laws.ensures e.0 e.1 e.2 e.3 (sym size.0) refl slots.0 slots.1 (subst (λ k. 0 < k) size.0 h.0, subst (λ k. 0 < k) size.1 h.1) c.requires.jobs.0 c.requires.jobs.1 c.requires.jobs.2 c.requires.jobs.3,
       c.requires.idle,
       omega (arith, count, slots.1),
       omega arith,
@@ -49,27 +49,27 @@ unserved mach view Plain log state lists first now new ring room todo started sl
     let driven : Driven mach log state first now offers capacity idle = running_ran mach view Plain log state lists first now ring room todo started slots offers capacity idle idled run few in
     subst (λ n. (r : Driven mach log state first n offers capacity idle) × IsGivenUp offers idle (log_of r.moves) e) (sym h.1) (driven, subst (IsGivenUp offers idle (log_of driven.moves)) (sym h.0) tt)
 
-pub returns-in_err-fin-clause-run : goal.returns-in_err-fin-clause-run
-returns-in_err-fin-clause-run g c =
+pub returns-in_err-went-clause-run : goal.returns-in_err-went-clause-run
+returns-in_err-went-clause-run g c =
     let s = c.rounds.invariant in
-    let d = c.in_err-fin.ensures in
+    let d = c.in_err-went.ensures in
     let p = err_from_is_err_and c.from_residual.result c.from_residual.ensures.1 in
     let left = some_open _ _ c.is_whole.ensures.1 c.rounds-test.true in
-    let n : (r : Driven g.P.Partner.machine g.P.Partner.log g.P.Partner.state c.args.partner.now c.round.new.partner c.args.todo.now (g.R.UserEnds.entries_fit c.args.engine.now.ring) c.args.idle) × IsGivenUp c.args.todo.now c.args.idle (log_of r.moves) c.in_err-fin.field-0.0 = elim d.err [
+    let n : (r : Driven g.P.Partner.machine g.P.Partner.log g.P.Partner.state c.args.partner.now c.round.new.partner c.args.todo.now (g.R.UserEnds.entries_fit c.args.engine.now.ring) c.args.idle) × IsGivenUp c.args.todo.now c.args.idle (log_of r.moves) c.in_err-went.field-0.0 = elim d.err [
       | inl h ↦ unserved _ _ _ _ _ _ _ _ _ _ _ _ _ _ c.args.todo.now _ _ _ _ s.0 left s.1 h
       | inr h ↦ next_faulted _ _ _ _ _ _ _ _ _ _ _ _ _ _ _ _ _ _ _ c.args.todo.now _ _ _ _ (next_of _ _ _ _ _ _ _ _ _ _ _ _ _ _ _ _ _ _ _ c.args.todo.now _ _ _ _ c.model_laws.ensures s.0 h.0 g.R.Rings.keeps h.1 left s.1)
     ] in
     (n.0, rw p.1 (subst (λ e. IsGivenUp c.args.todo.now c.args.idle (log_of n.0.moves) e) (sym p.2) n.1))
 
-pub returns-in_err-fin-clause-calm : goal.returns-in_err-fin-clause-calm
-returns-in_err-fin-clause-calm g c =
+pub returns-in_err-went-clause-calm : goal.returns-in_err-went-clause-calm
+returns-in_err-went-clause-calm g c =
     let s = c.rounds.invariant in
-    still_calm _ _ _ _ _ _ _ _ _ s.0.states s.4 s.6 c.in_err-fin.ensures.counted
+    still_calm _ _ _ _ _ _ _ _ _ s.0.states s.4 s.6 c.in_err-went.ensures.counted
 
 pub returns-then-idled-idle-clause-run : goal.returns-then-idled-idle-clause-run
 returns-then-idled-idle-clause-run g c =
     let s = c.rounds.invariant in
-    let d = c.in_ok-fin.ensures in
+    let d = c.in_ok-went.ensures in
     let x = next_of _ _ _ _ _ _ _ _ _ _ _ _ _ _ _ _ _ _ _ c.args.todo.now _ _ _ _ c.model_laws.ensures s.0 d.round g.R.Rings.keeps d.inside (some_open _ _ c.is_whole.ensures.1 c.rounds-test.true) s.1 in
     let y = running_next _ _ _ _ _ _ _ _ _ _ _ _ _ _ _ _ _ _ _ c.args.todo.now _ _ _ _ _ c.idle_after-idled.result x d.calm c.idle_after-idled.ensures in
     let e = stalled_end _ _ _ _ _ _ _ _ _ _ _ _ _ c.args.todo.now _ _ _ y c.if-idled-idle.true (left_open _ _ _ y.resting c.if-idled-idle.true c.requires.idle) in
@@ -78,7 +78,7 @@ returns-then-idled-idle-clause-run g c =
 pub returns-then-idled-idle-clause-unstalled : goal.returns-then-idled-idle-clause-unstalled
 returns-then-idled-idle-clause-unstalled g c =
     let s = c.rounds.invariant in
-    let d = c.in_ok-fin.ensures in
+    let d = c.in_ok-went.ensures in
     let x = next_of _ _ _ _ _ _ _ _ _ _ _ _ _ _ _ _ _ _ _ c.args.todo.now _ _ _ _ c.model_laws.ensures s.0 d.round g.R.Rings.keeps d.inside (some_open _ _ c.is_whole.ensures.1 c.rounds-test.true) s.1 in
     let y = running_next _ _ _ _ _ _ _ _ _ _ _ _ _ _ _ _ _ _ _ c.args.todo.now _ _ _ _ _ c.idle_after-idled.result x d.calm c.idle_after-idled.ensures in
     if_some (g.P.Partner.state c.args.partner.now) (λ a. IsPlainAndIdle g.P.Partner.Plain a → true ≡ false) (λ a told idle. absurd (omega (arith, (y.prompt a told idle).0, c.if-idled-idle.true, c.requires.idle)))
@@ -86,20 +86,20 @@ returns-then-idled-idle-clause-unstalled g c =
 pub rounds-smaller : goal.rounds-smaller
 rounds-smaller g c =
     let s = c.rounds.invariant in
-    let d = c.in_ok-fin.ensures in
+    let d = c.in_ok-went.ensures in
     let x = next_of _ _ _ _ _ _ _ _ _ _ _ _ _ _ _ _ _ _ _ c.args.todo.now _ _ _ _ c.model_laws.ensures s.0 d.round g.R.Rings.keeps d.inside (some_open _ _ c.is_whole.ensures.1 c.rounds-test.true) s.1 in
-    smaller c.in_ok-fin.fin _ _ _ _ _ (next_count _ _ _ _ _ _ _ _ _ _ _ _ _ _ _ _ _ _ _ c.args.todo.now _ _ _ _ x) c.idle_after-idled.ensures (omega (arith, s.1))
+    smaller c.in_ok-went.went _ _ _ _ _ (next_smaller _ _ _ _ _ _ _ _ _ _ _ _ _ _ _ _ _ _ _ c.args.todo.now _ _ _ _ x) c.idle_after-idled.ensures (omega (arith, s.1))
 
 pub rounds-preserved : goal.rounds-preserved
 rounds-preserved g c =
     let s = c.rounds.invariant in
-    let d = c.in_ok-fin.ensures in
+    let d = c.in_ok-went.ensures in
     let x = next_of _ _ _ _ _ _ _ _ _ _ _ _ _ _ _ _ _ _ _ c.args.todo.now _ _ _ _ c.model_laws.ensures s.0 d.round g.R.Rings.keeps d.inside (some_open _ _ c.is_whole.ensures.1 c.rounds-test.true) s.1 in
     let y = running_next _ _ _ _ _ _ _ _ _ _ _ _ _ _ _ _ _ _ _ c.args.todo.now _ _ _ _ _ c.idle_after-idled.result x d.calm c.idle_after-idled.ensures in
     let before = slots_stay _ _ _ _ _ _ _ _ _ _ _ _ _ c.args.todo.now _ _ _ s.0 in
     let after = slots_stay _ _ _ _ _ _ _ _ _ _ _ _ _ c.args.todo.now _ _ _ y in (
       y,
-      idled_below c.in_ok-fin.fin _ _ _ c.idle_after-idled.ensures (omega (arith, s.1)) c.if-idled-idle.false,
+      idled_below c.in_ok-went.went _ _ _ c.idle_after-idled.ensures (omega (arith, s.1)) c.if-idled-idle.false,
       omega (arith, before, after, s.2, d.inside),
       omega (arith, s.3, d.cause.later),
       λ p. d.plan (s.4 p),
@@ -111,4 +111,4 @@ pub returns-clause-run : goal.returns-clause-run
 returns-clause-run g c =
     let s = c.rounds.invariant in
     let none = c.is_whole.ensures.0 c.rounds-test.false in
-    (running_ran _ _ _ _ _ _ _ _ _ _ _ _ _ c.args.todo.now _ _ _ s.0 (whole_end _ _ _ _ _ _ _ _ _ _ _ _ _ c.args.todo.now _ _ _ s.0 none), (none, s.0.told_slots, s.0.expected, λ a told idle. let q = s.0.prompt a told idle in omega (arith, q.1, q.2)))
+    (running_ran _ _ _ _ _ _ _ _ _ _ _ _ _ c.args.todo.now _ _ _ s.0 (whole_end _ _ _ _ _ _ _ _ _ _ _ _ _ c.args.todo.now _ _ _ s.0 none), (none, s.0.told_slots, s.0.expected, λ a told idle. prompt_end _ _ _ _ _ _ _ _ _ _ _ _ _ c.args.todo.now _ _ _ c.model_laws.ensures s.0 a told idle))

@@ -2,7 +2,7 @@ use Rattle.std.proofs.Common.{◌≡◌, ◌+◌, ◌-◌, ◌*◌, ◌<◌, ◌
 use Rattle.run_loop.specs.Entries.{all_taken}
 use Rattle.run_loop.specs.Slots.{count_open}
 use Rattle.run_loop.specs.Flights.{IsSettled}
-use Rattle.run_loop.proofs.Running.{Running}
+use Rattle.run_loop.proofs.Running.{Running, untaken}
 use Rattle.run_loop.proofs.drive.drive.Given as goal
 
 -- the run so far
@@ -16,5 +16,6 @@ invariant-rounds g l =
     × IsSettled l.engine.ops l.table.started l.table.slots.items l.table.in_flight.items l.todo
     × IfSome (g.P.Partner.state l.initial.partner) (λ _. g.P.Partner.plan l.initial.partner ≡ [] → g.P.Counts.faults l.partner ≡ g.P.Counts.faults l.initial.partner)
 
+-- what is open or untaken, and how many more turns may be idle
 abbrev pub decreases-rounds : goal.decreases-rounds
-decreases-rounds g l = count_open l.table.slots.items * (l.fn.idle + 1) + (l.fn.idle - l.idled)
+decreases-rounds g l = (count_open l.table.slots.items + untaken (g.R.Rings.lists l.engine.ring) (length l.todo)) * (l.fn.idle + 1) + (l.fn.idle - l.idled)

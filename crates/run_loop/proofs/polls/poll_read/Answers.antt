@@ -1,6 +1,7 @@
-use Rattle.std.proofs.Common.{sym, ◌∙◌}
+use Rattle.std.proofs.Common.{refl, sym, ◌∙◌}
 use Rattle.rent_table.specs.Ops.{flight_at, done_at}
 use Rattle.rent_fs.specs.Outputs.{moved}
+use Rattle.run_loop.specs.declared.job_op.JobOp.TheVariants.{Read}
 use Rattle.run_loop.proofs.PollLemmas.{asked, same_lists, same_room, moved_tells}
 use Rattle.run_loop.proofs.polls.poll_read.Goals as goal
 
@@ -15,5 +16,5 @@ returns-in-Ready g c n can =
       places = same_room _ _ p.0 a.0 p.1.places;
       seen = p.1.seen;
       operations = a.1;
-      tells = moved_tells n (flight_at ops n) (done_at ops n) c.in-Ready.count c.in-Ready.buf c.moved_outcome.result can.known can.brings (sym c.in-Ready.is ∙ a.2) c.moved_outcome.ensures;
+      tells = moved_tells n (Read c.args.read) (flight_at ops n) (done_at ops n) c.in-Ready.count c.in-Ready.buf c.moved_outcome.result refl can.known can.brings can.posted (sym c.in-Ready.is ∙ a.2) c.moved_outcome.ensures;
     }

@@ -6,10 +6,6 @@ use Rattle.run_loop.specs.Driven.{Driven, IsGivenUp}
 use Rattle.run_loop.specs.Rounds.{is_partner_fault}
 use Rattle.run_loop.specs.Runs.{RunSays}
 use Rattle.run_loop.specs.Slots.{slots_from, open_slots}
-use Rattle.std.specs.List.{AllByRecursion}
-use Rattle.uring_model.specs.Asks.{IsJobEntry}
-use Rattle.run_loop.specs.Entries.{all_taken}
-use Rattle.run_loop.proofs.Asks.{six_all}
 use Rattle.run_loop.proofs.Posts.{slots_first}
 use Rattle.run_loop.proofs.StartLemmas.{settled_first}
 use Rattle.run_loop.proofs.Says.{not_driven, not_stalled, says_fault, says_either, gain_at, unplanned_lacking}
@@ -23,12 +19,12 @@ pub drive-requires-clause-slots : goal.drive-requires-clause-slots
 drive-requires-clause-slots g c =
     (c.in-Ok.ensures.slots ∙ ap open_slots c.deref.ensures.value ∙ sym (slots_first 0 c.args.jobs.items) ∙ ap (λ o. slots_from 0 o []) (sym c.new-todo.ensures), c.in-Ok.ensures.started)
 
-pub drive-requires-clause-six : goal.drive-requires-clause-six
-drive-requires-clause-six g c = subst (λ o. AllByRecursion IsJobEntry (all_taken o)) (sym c.new-todo.ensures) (six_all 0 c.args.jobs.items c.requires.valid c.requires.in_range)
+pub drive-requires-clause-jobs : goal.drive-requires-clause-jobs
+drive-requires-clause-jobs g c = (c.args.jobs.items, c.new-todo.ensures, c.requires.valid, c.requires.in_range)
 
 pub drive-requires-clause-settled : goal.drive-requires-clause-settled
 drive-requires-clause-settled g c =
-    settled_first _ _ _ _ _ c.args.jobs.items c.new-engine.ensures.ops c.in-Ok.ensures.started (drive-requires-clause-slots g c).0 c.in-Ok.ensures.none c.new-todo.ensures
+    settled_first _ _ _ _ _ c.args.jobs.items c.requires.valid c.new-engine.ensures.ops c.in-Ok.ensures.started (drive-requires-clause-slots g c).0 c.in-Ok.ensures.none c.new-todo.ensures
 
 pub returns-in_err-drive-clause-says : goal.returns-in_err-drive-clause-says
 returns-in_err-drive-clause-says g c =
