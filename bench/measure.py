@@ -9,8 +9,9 @@ PROGRAM is the built program; without it, crates/uring_cli/out/uring_cli of this
   nop     jobs that do nothing
   bytes   three reads of 64 bytes for each write of 64 bytes, on one file of at most 4,160 bytes
 
-Then the 262,144 nops are run with rings of 1, of 64 and of 32,768 entries, and three more kinds of
-scripts with rings of 64 and of 4,096 entries:
+Then 262,144 nops of which every second is quiet and linked to the next are run; the 262,144 nops are run
+with rings of 1, of 64 and of 32,768 entries; and three more kinds of scripts with rings of 64 and of
+4,096 entries:
 
   drained   nops, each fourth of them drained
   linked    nops in chains of four, by soft links
@@ -21,7 +22,7 @@ million entries through a pair of rings of 64, and as many items through two deq
 crates/engine_speed/out/engine_speed: a million operations through an engine, in three ways.
 
 Each script is run N times (3, unless said), and the shortest time counts. A run that doesn't end with
-status 0, or whose report lacks a job, stops the measuring with status 1. The goals are those of
+status 0, or whose report lacks a job or its end, stops the measuring with status 1. The goals are those of
 docs/BENCH.md; a goal that is missed is named, and the status is then 1 too.
 """
 
@@ -40,6 +41,7 @@ GOAL_RATIO = 4.4
 GOAL_NOP_MICROSECONDS = 1.0
 GOAL_MEGABYTES = 400.0
 GOAL_RING_RATIO = 1.5
+GOAL_QUIET_RATIO = 1.2
 GOAL_ENTRY_NANOSECONDS = 40.0
 GOAL_NUMBER_NANOSECONDS = 250.0
 GOAL_STATE_NANOSECONDS = 400.0
@@ -70,6 +72,11 @@ def bytes_lines(jobs):
             yield b"write 1 %d %s\n" % (offset, (b"%02x" % (job // 4 % 256)) * 64)
         else:
             yield b"read 1 %d 64\n" % offset
+
+
+def quiet_lines(jobs):
+    for job in range(jobs):
+        yield b"nop\n" if job % 2 == 1 else b"nop quiet link\n"
 
 
 def drained_lines(jobs):
@@ -117,9 +124,9 @@ def run_once(program, options, script, report):
 
 
 def check_report(report, jobs):
-    """The report has an outcome for each job, in order, a post for each, and its last line."""
+    """The report has an outcome for each job, in order, a post or a quiet end for each, and its last line."""
     outcomes = 0
-    posts = 0
+    ends = 0
     last = b""
     with open(report, "rb") as lines:
         for last in lines:
@@ -127,10 +134,10 @@ def check_report(report, jobs):
                 if not last.startswith(b"out %d " % outcomes):
                     sys.exit(f"measure.py: the line of outcome {outcomes} is {last!r}")
                 outcomes += 1
-            elif last.startswith(b"post "):
-                posts += 1
-    if outcomes != jobs or posts != jobs or last != b"end\n":
-        sys.exit(f"measure.py: {outcomes} outcomes and {posts} posts for {jobs} jobs, last line {last!r}")
+            elif last.startswith((b"post ", b"quiet ")):
+                ends += 1
+    if outcomes != jobs or ends != jobs or last != b"end\n":
+        sys.exit(f"measure.py: {outcomes} outcomes and {ends} ends for {jobs} jobs, last line {last!r}")
 
 
 def measure(program, folder, name, lines, jobs, runs, options=()):
@@ -155,6 +162,17 @@ def measure(program, folder, name, lines, jobs, runs, options=()):
 def print_row(name, jobs, seconds, megabytes):
     each = seconds * 1_000_000 / jobs
     print(f"{name:12} {jobs:7} jobs   {seconds:8.3f} s   {each:8.3f} microseconds a job   {megabytes:7.1f} MB")
+
+
+def measure_quiet(program, folder, runs, nops):
+    """What a job costs where every second one is quiet, beside as many nops that took `nops` seconds."""
+    seconds, peak = measure(program, folder, "quiet", quiet_lines, MANY, runs)
+    print_row("quiet", MANY, seconds, peak)
+    ratio = seconds / nops
+    return judge(
+        ratio <= GOAL_QUIET_RATIO,
+        f"nops, every second quiet and linked: {ratio:.2f} times the time of as many nops (goal: at most {GOAL_QUIET_RATIO})",
+    )
 
 
 def measure_rings(program, folder, runs):
@@ -252,6 +270,7 @@ def main():
             if name == "nop":
                 each = many * 1_000_000 / MANY
                 met &= judge(each <= GOAL_NOP_MICROSECONDS, f"{name}: {each:.3f} microseconds a job (goal: at most {GOAL_NOP_MICROSECONDS:.0f})")
+                met &= measure_quiet(program, folder, words.runs, many)
         met &= measure_rings(program, folder, words.runs)
         met &= measure_marked(program, folder, words.runs)
     ring_speed = os.path.join(here(), "crates", "ring_speed", "out", "ring_speed")

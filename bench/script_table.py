@@ -1,5 +1,5 @@
 #!/usr/bin/env python3
-"""The outcomes and journals that scripts with marks, cancels and choices must give.
+"""The outcomes and journals that scripts with marks, cancels, quiet jobs and choices must give.
 
 This is a second reading of docs/DEFINITIONS.md, written from its sentences over job numbers and
 from nothing in crates/: what is linked, severed and may settle, what one settling gives, and how
@@ -98,6 +98,25 @@ GROUPS = [
         ((8, 16, 0), "choose 4294967295;nop;nop;nop"),
         ((2, 8, 0), "choose 2;choose 2;nop;nop;nop;nop;nop"),
     ]),
+    ("quiet", "Nothing is posted for a quiet job that succeeds, and one that fails is posted.", [
+        ((8, 16, 0), "nop quiet link;nop"),
+        ((8, 16, 0), "file 1 ab;nop quiet link;fsync 1 quiet link;read 1 0 1;nop"),
+        ((8, 16, 0), "fsync 9 quiet link;nop"),
+        ((8, 16, 0), "nop;nop drain;nop drain quiet link;nop;nop"),
+        ((8, 16, 0), "file 1 ab;read 9 0 1 link;truncate 1 0 quiet link;read 1 0 1;read 1 0 1"),
+        ((8, 16, 0), "choose 3;file 1 ab;truncate 1 0 quiet link;read 1 0 1;cancel 0;read 1 0 1"),
+        ((8, 16, 0), "choose 3;file 1 ab;write 1 0 ff;cancel 0 quiet link;read 1 0 1"),
+        ((8, 16, 0), "nop;cancel 0 quiet link;nop;nop"),
+        ((8, 16, 0), "file 1 aabb;truncate 1 1 quiet hard;read 1 0 2;nop"),
+    ]),
+    ("quiet_over_turns", "A quiet end uses up a choice, needs room but takes none, and ends no turn.", [
+        ((8, 16, 0), "choose 0;nop quiet link;nop"),
+        ((2, 2, 0), "choose 2;choose 4;choose 0;nop;nop;nop;nop quiet hard;nop quiet link;nop"),
+        ((8, 16, 0), "choose 3;choose 5;choose 7;nop quiet link;nop;nop quiet link;nop;nop"),
+        ((2, 2, 0), "choose 2;nop;nop;nop;nop quiet link;nop"),
+        ((1, 1, 0), "nop quiet link;nop quiet link;nop"),
+        ((1, 2, 0), "nop quiet link;nop"),
+    ]),
 ]
 
 
@@ -112,12 +131,17 @@ def hex_of(data):
 class Job:
     def __init__(self, fields):
         self.link = fields.pop() if fields[-1] in ("link", "hard") else None
+        self.quiet = fields[-1] == "quiet"
+        if self.quiet:
+            fields.pop()
         self.drain = fields[-1] == "drain"
         if self.drain:
             fields.pop()
         self.kind = fields[0]
         self.args = fields[1:]
         self.moves = self.kind in ("read", "write")
+        if self.quiet and (self.moves or self.link is None):
+            raise ValueError("a quiet job is no read or write, and has a link")
         self.buf = None
         if self.kind == "read":
             self.buf = bytes(int(self.args[2]))
@@ -137,6 +161,8 @@ def parse(script):
             choices.append(int(fields[1]))
         else:
             jobs.append(Job(fields))
+    if jobs and jobs[-1].quiet:
+        raise ValueError(f"bad job {len(jobs) - 1}")
     return files, choices, jobs
 
 
@@ -188,6 +214,10 @@ class Run:
         result, _ = self.outcomes[i]
         return result < 0 or (self.jobs[i].moves and result < len(self.jobs[i].buf))
 
+    def is_quiet(self, j):
+        """Whether nothing is posted for a job that has its outcome."""
+        return self.jobs[j].quiet and self.outcomes[j][0] >= 0
+
     def severed(self, j):
         return any(
             self.jobs[i].link == "link" and self.bad(i) and all(self.linked(k) for k in range(i, j))
@@ -221,14 +251,19 @@ class Run:
         for _ in range(started):
             self.journal.append(f"take {self.taken}")
             self.taken += 1
-        for _ in range(self.completions):
+        room = self.completions
+        while room > 0:
             ready = [j for j in range(len(self.jobs)) if self.may_settle(j)]
             if not ready:
                 return
             choice = self.choices.pop(0) if self.choices else 1
             j = ready[(choice // 2) % len(ready)]
             self.outcomes[j] = self.settle(j)
+            if self.is_quiet(j):
+                self.journal.append(f"quiet {j}")
+                continue
             self.journal.append(f"post {j} {self.outcomes[j][0]}")
+            room -= 1
             if choice % 2 == 0:
                 return
 
@@ -238,7 +273,8 @@ class Run:
         outs = []
         for j, job in enumerate(self.jobs):
             result, buf = self.outcomes[j]
-            outs.append(f"out {j} {result} {hex_of(buf) if job.moves else '-'}")
+            told = "quiet" if self.is_quiet(j) else result
+            outs.append(f"out {j} {told} {hex_of(buf) if job.moves else '-'}")
         return outs + self.journal + ["end"]
 
 
@@ -259,8 +295,8 @@ def literal(lines):
 
 def table():
     text = [
-        "//! Scripts with marks, cancels and choices over small rings, and their reports, which",
-        "//! `bench/script_table.py` works out from the definitions.",
+        "//! Scripts with marks, cancels, quiet jobs and choices over small rings, and their reports,",
+        "//! which `bench/script_table.py` works out from the definitions.",
         "",
         "/// The sizes of both rings and the position at which they begin, a script, and its report.",
         "pub type Row = ((u32, u32, u32), &'static str, &'static str);",

@@ -19,7 +19,8 @@ use uring_text::Status;
 /// Reads a script from the input, runs it over the partner, and writes its report. The words are
 /// those after the program's name: `run`, and then options, each a name and a number of 32 bits:
 /// `--sq` and `--cq` for the sizes of the rings, `--start` for the position at which they begin,
-/// and `--idle` for the turns in a row that may pass without a final post. Other words do nothing.
+/// and `--idle` for the turns in a row that may pass with neither a take nor a final post. Other
+/// words do nothing.
 pub fn ring_main<I: Source, O: Sink, P: Partner + Seedable>(
     alloc: Global,
     words: &[Word],

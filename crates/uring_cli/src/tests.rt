@@ -8,6 +8,11 @@ const HELLO: &str = "file 3 68656c6c6f\nread 3 0 5\n";
 
 const HELLO_REPORT: &str = "out 0 5 68656c6c6f\nturn 1\ntake 0\npost 0 5\nend\n";
 
+const QUIET: &str = "nop quiet link\nnop\n";
+
+const QUIET_REPORT: &str =
+    "out 0 quiet -\nout 1 0 -\nturn 1\ntake 0\nquiet 0\nturn 1\ntake 1\npost 1 0\nend\n";
+
 /// Which read, which write and which enter of the partner fails, counted from 1.
 #[derive(Clone, Copy, Default)]
 struct Fails {
@@ -48,12 +53,18 @@ fn called(alloc: Global, line: &str, script: &str, fails: &Fails) -> Result<(Sta
     Ok((status, Buf::from_slice(alloc, out.bytes())?))
 }
 
-/// Each call that can find no memory answers otherwise where there is memory.
+/// Each call that can find no memory answers otherwise where there is memory. A turn that takes a
+/// job and posts nothing isn't idle.
 #[test]
 fn each_call(rt: HostRuntime) -> Result<(), Fail> {
-    let (status, text) = called(rt.alloc(), "run", HELLO, &Fails::default())?;
-    assert_eq!(rt; status, Status::Done);
-    assert_eq!(rt; text.as_slice(), HELLO_REPORT.as_bytes());
+    for (line, script, report) in [
+        ("run", HELLO, HELLO_REPORT),
+        ("run --sq 1 --idle 1", QUIET, QUIET_REPORT),
+    ] {
+        let (status, text) = called(rt.alloc(), line, script, &Fails::default())?;
+        assert_eq!(rt; status, Status::Done, "{line}");
+        assert_eq!(rt; text.as_slice(), report.as_bytes(), "{line}");
+    }
     Ok(())
 }
 
@@ -122,6 +133,10 @@ fn refusals(rt: HostRuntime) -> Result<(), Fail> {
             "nop\nwrite 1 18446744073709551615 00\n",
             Status::BadJob(1),
         ),
+        ("run", "nop quiet link", Status::BadJob(0)),
+        ("run", "nop\nfsync 1 drain quiet hard\n", Status::BadJob(1)),
+        ("run", "nop quiet", Status::Script(1)),
+        ("run", "read 1 0 1 quiet link\nnop", Status::Script(1)),
     ] {
         let (status, text) = called(rt.alloc(), line, script, &Fails::default())?;
         assert_eq!(rt; status, wanted, "{line}");

@@ -15,6 +15,7 @@ fn job(kind: JobKind, link: Link) -> Job {
     Job {
         kind,
         drain: false,
+        quiet: false,
         link,
     }
 }
@@ -49,6 +50,7 @@ fn is_outcome(outcome: &Option<Outcome>, answer: i32, bytes: &[u8]) -> bool {
             Outcome {
                 result,
                 buf: Some(buf),
+                quiet: false,
             },
         ) => *result == answer && buf.as_slice() == bytes,
         _ => false,

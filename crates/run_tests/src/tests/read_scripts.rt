@@ -23,6 +23,9 @@ fn put_job(alloc: Global, out: &mut String, job: &Job) -> Result<(), AllocError>
     if job.drain {
         out.push_str(" drained")?;
     }
+    if job.quiet {
+        out.push_str(" quiet")?;
+    }
     match job.link {
         Link::Free => out.push_str(";"),
         Link::Soft => out.push_str(" soft;"),
@@ -87,6 +90,14 @@ fn scripts(rt: HostRuntime) -> Result<(), Fail> {
             "write 1 0 - drain link\nfsync 1 drain",
             "write 1 0 [] drained soft;fsync 1 drained;",
         ),
+        (
+            "nop quiet link\nfsync 1 drain quiet hard",
+            "nop quiet soft;fsync 1 drained quiet hard;",
+        ),
+        (
+            "truncate 1 2 quiet hard\ncancel 0 drain quiet link",
+            "cut 1 to 2 quiet hard;cancel 0 drained quiet soft;",
+        ),
     ] {
         assert_eq!(rt; read(alloc, text)?.as_str(), want, "at {text}");
     }
@@ -114,6 +125,14 @@ fn fault_lines(rt: HostRuntime) -> Result<(), Fail> {
         ("nop\nchoose 1 drain", "line 2"),
         ("nop\nnop link drain", "line 2"),
         ("nop\nftruncate 1 2", "line 2"),
+        ("nop quiet", "line 1"),
+        ("nop\nnop drain quiet", "line 2"),
+        ("read 1 0 1 quiet link", "line 1"),
+        ("write 1 0 00 quiet hard", "line 1"),
+        ("nop quiet drain link", "line 1"),
+        ("nop link quiet", "line 1"),
+        ("nop quiet quiet link", "line 1"),
+        ("choose 1 quiet", "line 1"),
     ] {
         assert_eq!(rt; read(alloc, text)?.as_str(), want, "at {text}");
     }

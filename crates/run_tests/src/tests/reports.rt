@@ -4,13 +4,13 @@ use uring_base::{Buf, Event};
 use uring_model::{Outcome, Report};
 use uring_text::report_text;
 
-/// A result, and the bytes of the buffer, if there is one.
-type End<'a> = (i32, Option<&'a [u8]>);
+/// A result, the bytes of the buffer, if there is one, and whether it is quiet.
+type End<'a> = (i32, Option<&'a [u8]>, bool);
 
 /// The text of the report with these outcomes and events.
 fn reported(alloc: Global, ends: &[End<'_>], journal: &[Event]) -> Result<Buf, AllocError> {
     let mut outcomes = Vec::new(alloc);
-    for (number, bytes) in ends {
+    for (number, bytes, quiet) in ends {
         let buf = match bytes {
             Some(bytes) => Some(Buf::from_slice(alloc, bytes)?),
             None => None,
@@ -18,6 +18,7 @@ fn reported(alloc: Global, ends: &[End<'_>], journal: &[Event]) -> Result<Buf, A
         outcomes.push(Outcome {
             result: *number,
             buf,
+            quiet: *quiet,
         })?;
     }
     let report = Report {
@@ -60,13 +61,13 @@ fn reports(rt: HostRuntime) -> Result<(), Fail> {
     ] {
         let journal = [Event::Turn(1), Event::Take(0), post(0, number)];
         assert_eq!(rt;
-            reported(alloc, &[(number, bytes)], &journal)?.as_slice(),
+            reported(alloc, &[(number, bytes, false)], &journal)?.as_slice(),
             want
         );
     }
     let ends = [
-        (1, Some(b"\xab\0".as_slice())),
-        (-125, Some(b"\xcc".as_slice())),
+        (1, Some(b"\xab\0".as_slice()), false),
+        (-125, Some(b"\xcc".as_slice()), false),
     ];
     let journal = [
         Event::Turn(2),
@@ -99,8 +100,25 @@ fn dashes_and_more(rt: HostRuntime) -> Result<(), Fail> {
         },
     ];
     assert_eq!(rt;
-        reported(alloc, &[(0, None), (i32::MIN, Some(&[]))], &journal)?.as_slice(),
+        reported(
+            alloc,
+            &[(0, None, false), (i32::MIN, Some(&[]), false)],
+            &journal
+        )?
+        .as_slice(),
         b"out 0 0 -\nout 1 -2147483648 -\nmore 18446744073709551615 7\nmore 0 -1\nend\n".as_slice()
+    );
+    Ok(())
+}
+
+/// A quiet outcome has no result, and a quiet event says whose it is.
+#[test]
+fn quiet_ends(rt: HostRuntime) -> Result<(), Fail> {
+    let alloc = rt.alloc();
+    let journal = [Event::Quiet(0), Event::Quiet(u64::MAX), post(1, 7)];
+    assert_eq!(rt;
+        reported(alloc, &[(3, None, true), (7, None, false)], &journal)?.as_slice(),
+        b"out 0 quiet -\nout 1 7 -\nquiet 0\nquiet 18446744073709551615\npost 1 7\nend\n".as_slice()
     );
     Ok(())
 }

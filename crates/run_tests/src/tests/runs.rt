@@ -9,6 +9,7 @@ fn free(kind: JobKind) -> Job {
     Job {
         kind,
         drain: false,
+        quiet: false,
         link: Link::Free,
     }
 }
@@ -120,8 +121,8 @@ fn hostile_partners(rt: HostRuntime) -> Result<(), Fail> {
     Ok(())
 }
 
-/// A silent partner is given up after as many turns as may pass: its log has a turn over the entry,
-/// the entry's taking, and a turn over none.
+/// A silent partner is given up after as many idle turns as may pass: its log has a turn over the
+/// entry, the entry's taking, which keeps that turn from being idle, and two turns over none.
 #[test]
 fn idle_turns(rt: HostRuntime) -> Result<(), Fail> {
     let alloc = rt.alloc();
@@ -129,7 +130,7 @@ fn idle_turns(rt: HostRuntime) -> Result<(), Fail> {
     let jobs = one(alloc, JobKind::Nop)?;
     let run = run_jobs(alloc, 8, 16, 0, 2, &mut partner, jobs);
     assert!(rt; matches!(run, Err(RunFault::Stalled)));
-    assert_eq!(rt; partner.log_len(), 3);
+    assert_eq!(rt; partner.log_len(), 4);
     Ok(())
 }
 

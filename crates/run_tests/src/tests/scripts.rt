@@ -8,6 +8,10 @@ use uring_model::{Files, have_counts, replay};
 use uring_partner::{MemoryPartner, Seedable};
 use uring_text::{read_script, report_text};
 
+/// After so many turns in a row with neither a take nor a final post a run is given up. The memory
+/// partner makes none.
+const IDLE: u32 = 1;
+
 /// The report of a script over a new partner, and the partner.
 fn run(alloc: Global, sizes: (u32, u32, u32), text: &str) -> Result<(Report, MemoryPartner), Fail> {
     let script = read_script(alloc, text.as_bytes())?;
@@ -19,7 +23,7 @@ fn run(alloc: Global, sizes: (u32, u32, u32), text: &str) -> Result<(Report, Mem
         partner.add_choice(alloc, choice)?;
     }
     let (sq, cq, start) = sizes;
-    let report = run_jobs(alloc, sq, cq, start, 16, &mut partner, script.jobs)?;
+    let report = run_jobs(alloc, sq, cq, start, IDLE, &mut partner, script.jobs)?;
     Ok((report, partner))
 }
 
@@ -32,7 +36,7 @@ fn is_same(told: &Option<Outcome>, outcome: &Outcome) -> bool {
         (None, None) => true,
         _ => false,
     };
-    same && told.result == outcome.result
+    same && told.result == outcome.result && told.quiet == outcome.quiet
 }
 
 fn has_same_files(partner: &MemoryPartner, files: &Files) -> bool {
@@ -81,7 +85,8 @@ fn assert_rows(rt: &impl Abort, alloc: Global, rows: &[table::Row]) -> Result<()
     Ok(())
 }
 
-/// Scripts with marks, cancels and choices give what a second reading of the definitions gives.
+/// Scripts with marks, cancels, quiet jobs and choices give what a second reading of the definitions
+/// gives.
 #[test]
 fn worked_out_reports(rt: HostRuntime) -> Result<(), Fail> {
     let alloc = rt.alloc();
@@ -92,5 +97,7 @@ fn worked_out_reports(rt: HostRuntime) -> Result<(), Fail> {
     assert_rows(&rt, alloc, &table::links_over_turns())?;
     assert_rows(&rt, alloc, &table::canceled())?;
     assert_rows(&rt, alloc, &table::cancels())?;
-    assert_rows(&rt, alloc, &table::chosen())
+    assert_rows(&rt, alloc, &table::chosen())?;
+    assert_rows(&rt, alloc, &table::quiet())?;
+    assert_rows(&rt, alloc, &table::quiet_over_turns())
 }

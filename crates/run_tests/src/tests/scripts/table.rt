@@ -1,5 +1,5 @@
-//! Scripts with marks, cancels and choices over small rings, and their reports, which
-//! `bench/script_table.py` works out from the definitions.
+//! Scripts with marks, cancels, quiet jobs and choices over small rings, and their reports,
+//! which `bench/script_table.py` works out from the definitions.
 
 /// The sizes of both rings and the position at which they begin, a script, and its report.
 pub type Row = ((u32, u32, u32), &'static str, &'static str);
@@ -353,6 +353,93 @@ pub fn chosen() -> [Row; 11] {
             (2, 8, 0),
             "choose 2\nchoose 2\nnop\nnop\nnop\nnop\nnop\n",
             "out 0 0 -\nout 1 0 -\nout 2 0 -\nout 3 0 -\nout 4 0 -\nturn 2\ntake 0\ntake 1\npost 1 0\nturn 2\ntake 2\ntake 3\npost 2 0\nturn 1\ntake 4\npost 0 0\npost 3 0\npost 4 0\nend\n",
+        ),
+    ]
+}
+
+/// Nothing is posted for a quiet job that succeeds, and one that fails is posted.
+pub fn quiet() -> [Row; 9] {
+    [
+        (
+            (8, 16, 0),
+            "nop quiet link\nnop\n",
+            "out 0 quiet -\nout 1 0 -\nturn 2\ntake 0\ntake 1\nquiet 0\npost 1 0\nend\n",
+        ),
+        (
+            (8, 16, 0),
+            "file 1 ab\nnop quiet link\nfsync 1 quiet link\nread 1 0 1\nnop\n",
+            "out 0 quiet -\nout 1 quiet -\nout 2 1 ab\nout 3 0 -\nturn 4\ntake 0\ntake 1\ntake 2\ntake 3\nquiet 0\nquiet 1\npost 2 1\npost 3 0\nend\n",
+        ),
+        (
+            (8, 16, 0),
+            "fsync 9 quiet link\nnop\n",
+            "out 0 -9 -\nout 1 -125 -\nturn 2\ntake 0\ntake 1\npost 0 -9\npost 1 -125\nend\n",
+        ),
+        (
+            (8, 16, 0),
+            "nop\nnop drain\nnop drain quiet link\nnop\nnop\n",
+            "out 0 0 -\nout 1 0 -\nout 2 quiet -\nout 3 0 -\nout 4 0 -\nturn 5\ntake 0\ntake 1\ntake 2\ntake 3\ntake 4\npost 0 0\npost 1 0\nquiet 2\npost 3 0\npost 4 0\nend\n",
+        ),
+        (
+            (8, 16, 0),
+            "file 1 ab\nread 9 0 1 link\ntruncate 1 0 quiet link\nread 1 0 1\nread 1 0 1\n",
+            "out 0 -9 00\nout 1 -125 -\nout 2 -125 00\nout 3 1 ab\nturn 4\ntake 0\ntake 1\ntake 2\ntake 3\npost 0 -9\npost 1 -125\npost 2 -125\npost 3 1\nend\n",
+        ),
+        (
+            (8, 16, 0),
+            "choose 3\nfile 1 ab\ntruncate 1 0 quiet link\nread 1 0 1\ncancel 0\nread 1 0 1\n",
+            "out 0 -125 -\nout 1 -125 00\nout 2 0 -\nout 3 1 ab\nturn 4\ntake 0\ntake 1\ntake 2\ntake 3\npost 2 0\npost 0 -125\npost 1 -125\npost 3 1\nend\n",
+        ),
+        (
+            (8, 16, 0),
+            "choose 3\nfile 1 ab\nwrite 1 0 ff\ncancel 0 quiet link\nread 1 0 1\n",
+            "out 0 -125 ff\nout 1 quiet -\nout 2 1 ab\nturn 3\ntake 0\ntake 1\ntake 2\nquiet 1\npost 0 -125\npost 2 1\nend\n",
+        ),
+        (
+            (8, 16, 0),
+            "nop\ncancel 0 quiet link\nnop\nnop\n",
+            "out 0 0 -\nout 1 -2 -\nout 2 -125 -\nout 3 0 -\nturn 4\ntake 0\ntake 1\ntake 2\ntake 3\npost 0 0\npost 1 -2\npost 2 -125\npost 3 0\nend\n",
+        ),
+        (
+            (8, 16, 0),
+            "file 1 aabb\ntruncate 1 1 quiet hard\nread 1 0 2\nnop\n",
+            "out 0 quiet -\nout 1 1 aa00\nout 2 0 -\nturn 3\ntake 0\ntake 1\ntake 2\nquiet 0\npost 1 1\npost 2 0\nend\n",
+        ),
+    ]
+}
+
+/// A quiet end uses up a choice, needs room but takes none, and ends no turn.
+pub fn quiet_over_turns() -> [Row; 6] {
+    [
+        (
+            (8, 16, 0),
+            "choose 0\nnop quiet link\nnop\n",
+            "out 0 quiet -\nout 1 0 -\nturn 2\ntake 0\ntake 1\nquiet 0\npost 1 0\nend\n",
+        ),
+        (
+            (2, 2, 0),
+            "choose 2\nchoose 4\nchoose 0\nnop\nnop\nnop\nnop quiet hard\nnop quiet link\nnop\n",
+            "out 0 0 -\nout 1 0 -\nout 2 0 -\nout 3 quiet -\nout 4 quiet -\nout 5 0 -\nturn 2\ntake 0\ntake 1\npost 1 0\nturn 2\ntake 2\ntake 3\nquiet 3\npost 0 0\nturn 2\ntake 4\ntake 5\npost 2 0\nquiet 4\npost 5 0\nend\n",
+        ),
+        (
+            (8, 16, 0),
+            "choose 3\nchoose 5\nchoose 7\nnop quiet link\nnop\nnop quiet link\nnop\nnop\n",
+            "out 0 quiet -\nout 1 0 -\nout 2 quiet -\nout 3 0 -\nout 4 0 -\nturn 5\ntake 0\ntake 1\ntake 2\ntake 3\ntake 4\nquiet 2\npost 4 0\npost 3 0\nquiet 0\npost 1 0\nend\n",
+        ),
+        (
+            (2, 2, 0),
+            "choose 2\nnop\nnop\nnop\nnop quiet link\nnop\n",
+            "out 0 0 -\nout 1 0 -\nout 2 0 -\nout 3 quiet -\nout 4 0 -\nturn 2\ntake 0\ntake 1\npost 1 0\nturn 2\ntake 2\ntake 3\npost 0 0\npost 2 0\nturn 1\ntake 4\nquiet 3\npost 4 0\nend\n",
+        ),
+        (
+            (1, 1, 0),
+            "nop quiet link\nnop quiet link\nnop\n",
+            "out 0 quiet -\nout 1 quiet -\nout 2 0 -\nturn 1\ntake 0\nquiet 0\nturn 1\ntake 1\nquiet 1\nturn 1\ntake 2\npost 2 0\nend\n",
+        ),
+        (
+            (1, 2, 0),
+            "nop quiet link\nnop\n",
+            "out 0 quiet -\nout 1 0 -\nturn 1\ntake 0\nquiet 0\nturn 1\ntake 1\npost 1 0\nend\n",
         ),
     ]
 }
