@@ -49,6 +49,14 @@ impl<R: UserEnds> Engine<R> {
         }
     }
 
+    /// Gives the ring back. What is in flight is dropped, with what it lent, and so is what is
+    /// resolved and unpolled. It takes no memory.
+    pub fn into_ring(self) -> R
+        ensures { result ≡ self.ring }
+    {
+        self.ring
+    }
+
     /// The least number that is neither in flight nor resolved and unpolled. It takes at most as
     /// many steps as the room for numbers has binary digits.
     pub fn fresh(&self) -> u64

@@ -7,6 +7,7 @@ pub mod PumpLemmas
 pub mod EntryLemmas
 pub mod RingLemmas
 pub mod LandLemmas
+pub mod Places
 pub mod RoundLemmas
 pub mod Asks
 pub mod Posts

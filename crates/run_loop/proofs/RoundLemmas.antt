@@ -4,6 +4,7 @@ use Rattle.std.specs.Bool.{OnTrue}
 use Rattle.std.specs.Result.{is_err}
 use Rattle.std.proofs.lemmas.Bool.Decides.{nat_tests}
 use Rattle.std.proofs.lemmas.List.Recursion.{is_count_by}
+use Rattle.std.proofs.lemmas.List.{length-map}
 use Rattle.uring_base.specs.declared.events.Taken.{Taken}
 use Rattle.uring_base.specs.declared.events.Completion.{Completion}
 use Rattle.uring_base.specs.declared.events.LogEvent.{LogEvent}
@@ -29,8 +30,9 @@ use Rattle.rent_engine.specs.Turns.{TurnEnds, EngineTurned}
 use Rattle.run_loop.specs.declared.slot.Slot.{Slot}
 use Rattle.run_loop.specs.Slots.{land_all, stranger_among, any_final}
 use Rattle.run_loop.specs.Flights.{all_polled, AreOperated, NoneResolved}
-use Rattle.run_loop.specs.Rounds.{pushed_more, IsCalm, Round, RoundEnds, engine_fault, goes_on}
+use Rattle.run_loop.specs.Rounds.{pushed_more, IsCalm, PlacesGoOn, Round, RoundEnds, engine_fault, goes_on}
 use Rattle.run_loop.proofs.LandLemmas.{stranger-append}
+use Rattle.run_loop.proofs.Places.{places_of, advances_by}
 use Rattle.run_loop.proofs.FlightLemmas.{none_of, none_polled}
 use Rattle.run_loop.proofs.PumpLemmas.{all_completed}
 
@@ -103,6 +105,9 @@ whole_of_full mach None known space l ms full = tt
 whole_of_full mach (Some a) known space None ms full = tt
 whole_of_full mach (Some a) known space (Some l) ms full = record { ts = full.ts; moves = full.moves ∙ ap (λ t. moves_of_turn (length full.ts) full.ts t.ends) full.told }
 
+pub posts_are : (kept : Completion → Completion) (a : Lists) (ms : List Move) (cs ds : List Completion) → a.completions ≡ [] → a.completions ++ map kept (posted ms) ≡ cs ++ ds → map kept (posted ms) ≡ cs ++ ds
+posts_are kept a ms cs ds e h = ap (λ l. l ++ map kept (posted ms)) (sym e) ∙ h
+
 module _ {W : Type 0} (mach : schedule.Machine W) {P R : Type 0} (log : P → Option (List LogEvent)) (state : P → Option (schedule.State W)) (lists : R → Option Lists) (ready space : R → ℕ) (kept : Completion → Completion) (moved : R → List Taken → List Completion → R → Type 0) (flags_word : R → ℕ) (used : R → List Taken → List Completion → R → Type 0) (room waiting : R → ℕ) where
   did_by : (answer : Result ℕ SubmitError) (left to : R) (ops ops' : Ops) (steps steps' : KeptSteps) (result : Result TurnReport EngineFault) (a : Lists) (ts : List Taken) (ms : List Move) → WhereTold (λ l m. Moves kept l (took ms) (posted ms) m) (Some (offered_to a ts)) (lists left) → IfOk answer (λ n. n ≡ length (took ms)) → TurnEnds mach log state lists ready space moved flags_word used room waiting answer left to ops ops' steps steps' result
       → Did kept a ts ms ops ops' result (is_ok answer) (lists to) (room to) (waiting to)
@@ -118,6 +123,16 @@ module _ {W : Type 0} (mach : schedule.Machine W) {P R : Type 0} (log : P → Op
     ended = (error, e.3);
     seen = tt;
   }
+
+  -- a turn that succeeds reaps all that was posted
+  reaped_by : (answer : Result ℕ SubmitError) (left to : R) (ops ops' : Ops) (steps steps' : KeptSteps) (result : Result TurnReport EngineFault) (a : Lists) (ts : List Taken) (ms : List Move) → WhereTold (λ l m. Moves kept l (took ms) (posted ms) m) (Some (offered_to a ts)) (lists left) → TurnEnds mach log state lists ready space moved flags_word used room waiting answer left to ops ops' steps steps' result
+      → (report : TurnReport) → result ≡ Ok report → a.completions ≡ [] → waiting to ≡ 0 → (cs : List Completion) × used left [] cs to × (length cs ≡ length (posted ms))
+  reaped_by (Ok taken) left to ops ops' steps steps' result a ts ms m e report ok first none =
+      let went = pumped_then kept a ts ms e.0.completions (lists left) (lists to) m e.0.told in
+      let seen : (room to ≡ free_of went.after) × (waiting to ≡ length went.after.completions) = subst (λ q. IfSome q (λ l. (room to ≡ free_of l) × (waiting to ≡ length l.completions))) went.told e.0.seen in
+      let all : map kept (posted ms) ≡ e.0.completions = posts_are kept a ms e.0.completions went.after.completions first went.posts ∙ ap (λ l. e.0.completions ++ l) (none_of went.after.completions (sym seen.1 ∙ none)) ∙ append-nil e.0.completions in
+      (e.0.completions, e.0.uses, ap length (sym all) ∙ length-map (posted ms) kept)
+  reaped_by (Err error) left to ops ops' steps steps' result a ts ms m e report ok first none = let bad : Err (engine_fault_of error) ≡ Ok report = sym e.3 ∙ ok in cc
 
   module _ (moved_told : (a b : R) (ts : List Taken) (cs : List Completion) → moved a ts cs b → WhereTold (λ l m. Moves kept l ts cs m) (lists a) (lists b)) (fits : (r : R) → IfSome (lists r) HasRoom)
       (params : Parameters) (old new : P) (from mid to : R) (ops ops' : Ops) (steps steps' : KeptSteps) (result : Result TurnReport EngineFault) (t : EngineTurned mach log state lists ready space moved flags_word used room waiting params old new mid to ops ops' steps steps' result)
@@ -140,6 +155,18 @@ module _ {W : Type 0} (mach : schedule.Machine W) {P R : Type 0} (log : P → Op
         (subst (λ o. WhereTold (λ l m. Moves kept l (took moves) (posted moves) m) o (lists t.left)) at_is (moved_told t.submitted.shown t.left (took moves) (posted moves) t.submitted.enters.made.sides))
         t.submitted.enters.taken
         t.ends
+
+    -- the positions go on by what was offered and by what was posted
+    pub round_places : (offer_place reap_place : R → ℕ)
+        → ((a b : R) (ts : List Taken) (cs : List Completion) → used a ts cs b → PlacesGoOn offer_place reap_place a b (length ts) (length cs))
+        → ((a b : R) (ts : List Taken) (cs : List Completion) → moved a ts cs b → (offer_place b ≡ offer_place a) × (reap_place b ≡ reap_place a))
+        → used from ts [] mid → (last : R) → used to [] [] last → (report : TurnReport) → result ≡ Ok report → a.completions ≡ [] → waiting to ≡ 0 → PlacesGoOn offer_place reap_place from last (length ts) (length (posted moves))
+    round_places offer_place reap_place used_places moved_places offers last polls report ok first none =
+        let r = reaped_by t.answer t.left to ops ops' steps steps' result a ts moves
+        (subst (λ o. WhereTold (λ l m. Moves kept l (took moves) (posted moves) m) o (lists t.left)) at_is (moved_told t.submitted.shown t.left (took moves) (posted moves) t.submitted.enters.made.sides))
+        t.ends report ok first none in
+        let p = places_of used moved offer_place reap_place used_places moved_places from mid t.submitted.shown t.left to last ts (took moves) r.0 (posted moves) offers t.submitted.publishes t.submitted.enters.made.sides r.1 polls in
+        (p.0, advances_by (reap_place from) (reap_place last) (length r.0) (length (posted moves)) r.2 p.1)
 
     full_whole : (answer : Result ℕ SubmitError) (o : Option Lists) → OnOk answer (IsFullTurn mach (state old) (ready t.submitted.shown) (space t.submitted.shown) o moves) → OnOk answer (IsWholeTurn mach (state old) o moves)
     full_whole (Ok taken) o h = whole_of_full mach (state old) (ready t.submitted.shown) (space t.submitted.shown) o moves h
@@ -177,10 +204,13 @@ module _ {W : Type 0} (mach : schedule.Machine W) {P R : Type 0} (log : P → Op
       ends = ends;
     }
 
--- how a round ends, by how its turn did
+    -- with the positions
+    pub placed_round : (offer_place reap_place : R → ℕ) → (last : R) → lists last ≡ lists to → IsCalm a (room from) → (todo todo' : List Taken) → todo ≡ ts ++ todo' → room from ≡ room mid + length ts → (todo' ≡ []) ⊎ (room mid ≡ 0) → (started : ℕ) (slots slots' : List Slot) (answer : Result Bool RunFault)
+        → RoundEnds started slots (took moves) (map kept (posted moves)) slots' entered answer → PlacesGoOn offer_place reap_place from last (length ts) (length (posted moves)) → (r : Round mach log state lists kept old new from last todo todo' started slots slots' answer) × PlacesGoOn offer_place reap_place from last (length r.ts) (length (posted r.ms))
+    unfolding round_of
+    placed_round offer_place reap_place last same calm todo todo' split places full started slots slots' answer ends on = (round_of last same calm todo todo' split places full started slots slots' answer ends, on)
 
-pub posts_are : (kept : Completion → Completion) (a : Lists) (ms : List Move) (cs ds : List Completion) → a.completions ≡ [] → a.completions ++ map kept (posted ms) ≡ cs ++ ds → map kept (posted ms) ≡ cs ++ ds
-posts_are kept a ms cs ds e h = ap (λ l. l ++ map kept (posted ms)) (sym e) ∙ h
+-- how a round ends, by how its turn did
 
 pub fault_by : (begun : ℕ) (slots slots' : List Slot) (jobs : List ℕ) (ops ops' : Ops) (ts : List Taken) (cs ds posts : List Completion) (entered : Bool) (fault : EngineFault) → AreOperated ops begun slots jobs → NoneResolved ops → posts ≡ cs ++ ds → Ended entered (length ts) ops cs ops' (Err fault)
     → RoundEnds begun slots ts posts slots' entered (Err (engine_fault fault))

@@ -24,6 +24,7 @@ use Rattle.ring_traits.specs.Lists.{Lists, IsKept, HasRoom, all_published, free_
 use Rattle.run_loop.proofs.Prompt.{six_front, six_back, took_turn, served_some, AllFinal, turn_final, final_any, stands, turn_pays, same_turn}
 use Rattle.run_loop.proofs.Asks.{six_all}
 use Rattle.run_loop.proofs.EntryLemmas.{offers_count}
+use Rattle.run_loop.proofs.SlotLemmas.{count_of_done}
 use Rattle.run_loop.proofs.Quiets.{loud_last}
 use Rattle.std.specs.Bool.{OnTrue}
 use Rattle.partner_traits.specs.Calls.{IsCall, IsTurn, IsTurnOf, IsWholeTurn}
@@ -31,7 +32,8 @@ use Rattle.run_loop.specs.declared.entries.Offer.{Offer}
 use Rattle.run_loop.specs.declared.slot.Slot.{Slot}
 use Rattle.run_loop.specs.Entries.{all_taken, lends_in, quiets_in, offers_from, AllValid, AllInRange}
 use Rattle.run_loop.specs.Laws.{ModelLaws}
-use Rattle.run_loop.specs.Told.{idle_turns}
+use Rattle.run_loop.specs.Told.{idle_turns, unposted}
+use Rattle.run_loop.specs.Flights.{AreAhead}
 use Rattle.run_loop.specs.Slots.{slots_from, count_open, land_all, stranger_among, any_final}
 use Rattle.run_loop.specs.Rounds.{pushed_more, IsCalm, goes_on, Round}
 use Rattle.run_loop.specs.Driven.{Driven, IsOpenJob, IsGivenUp}
@@ -169,6 +171,12 @@ told_same o a b p q = some_is a b (sym p ∙ q)
 
 pub entries-length : (offers : List Offer) → length (all_taken offers) ≡ length offers
 entries-length offers = length-map offers (λ o. small o.entry o.loan)
+
+-- what was started, by what is left to offer
+pub started_more : (ts : List Taken) (todo todo' : List Offer) (started started' : ℕ) → all_taken todo ≡ ts ++ all_taken todo' → started' + length todo' ≡ started + length todo → started + length ts ≡ started'
+started_more ts todo todo' started started' split count =
+    let offered : length todo ≡ length ts + length todo' = sym (entries-length todo) ∙ ap length split ∙ length-append ts (all_taken todo') ∙ ap (λ n. length ts + n) (entries-length todo') in
+    omega (arith, count, offered)
 
 -- how many entries were taken, are published and are still to offer
 pub counts : (offers : List Offer) (ms : List Move) (published todo : List Taken) → took ms ++ (published ++ todo) ≡ all_taken offers → length (took ms) + (length published + length todo) ≡ length offers
@@ -453,6 +461,11 @@ running_next mach view Plain log state lists kept first now new from to room tod
       prompt = next_prompt mach view Plain log state lists kept first now new from to room todo todo' started started' slots slots' offers capacity idle idled went x idled' e;
     }
 
+pub next_moves : {W : Type 0} (mach : schedule.Machine W) (view : W → Files) (Plain : W → Type 0) {P R : Type 0} (log : P → Option (List LogEvent)) (state : P → Option (schedule.State W)) (lists : R → Option Lists) (kept : Completion → Completion) (first now new : P) (from to : R) (room : ℕ) (todo todo' : List Taken) (started started' : ℕ) (slots slots' : List Slot) (offers : List Offer) (capacity idle idled : ℕ) (went : Bool) (room' idled' : ℕ) → (x : Next mach view Plain log state lists kept first now new from to room todo todo' started started' slots slots' offers capacity idle idled (Ok went)) → (calm : (l : Lists) × (lists to ≡ Some l) × IsCalm l room') (e : idled' ≡ cond went 0 (idled + 1))
+    → (running_next mach view Plain log state lists kept first now new from to room todo todo' started started' slots slots' offers capacity idle idled went room' idled' x calm e).ms ≡ x.run.ms ++ x.round.ms
+unfolding running_next
+next_moves mach view Plain log state lists kept first now new from to room todo todo' started started' slots slots' offers capacity idle idled went room' idled' x calm e = refl
+
 -- a round that ends with a fault
 
 faulted_next : {W : Type 0} (mach : schedule.Machine W) (view : W → Files) (Plain : W → Type 0) {P R : Type 0} (log : P → Option (List LogEvent)) (state : P → Option (schedule.State W)) (lists : R → Option Lists) (kept : Completion → Completion) (first now new : P) (from to : R) (room : ℕ) (todo todo' : List Taken) (started started' : ℕ) (slots slots' : List Slot) (offers : List Offer) (capacity idle idled : ℕ) (e : RunFault) → (x : Next mach view Plain log state lists kept first now new from to room todo todo' started started' slots slots' offers capacity idle idled (Err e)) → IsGivenUp offers idle (log_of (x.run.ms ++ x.round.ms)) e
@@ -511,6 +524,17 @@ pub whole_end : {W : Type 0} (mach : schedule.Machine W) (view : W → Files) (P
     → (x : Running mach view Plain log state lists first now ring room todo started slots offers capacity idle idled) → count_open slots ≡ 0 → turns x.ms ≤ idle * (2 * length offers)
 whole_end mach view Plain log state lists first now ring room todo started slots offers capacity idle idled x z = few_end idle (2 * length offers) (turns x.ms) (left_of (length offers) slots x.ms) idled x.few (x.resting z)
 
+none_ahead : (n : ℕ) (slots : List Slot) (todo : List Offer) → AreAhead n slots todo → count_open slots ≡ 0 → todo ≡ []
+none_ahead n slots [] ahead none = refl
+none_ahead n slots (offer ∷ todo) ahead none = let one = count_of_done slots n offer.reply offer.quiet unposted ahead.0.slot in absurd (omega (arith, one, none))
+
+-- where no slot is open, all was offered
+pub all_started : {W : Type 0} (mach : schedule.Machine W) (view : W → Files) (Plain : W → Type 0) {P R : Type 0} (log : P → Option (List LogEvent)) (state : P → Option (schedule.State W)) (lists : R → Option Lists) (first now : P) (ring : R) (room : ℕ) (todo : List Offer) (started : ℕ) (slots : List Slot) (offers : List Offer) (capacity idle idled : ℕ)
+    → (x : Running mach view Plain log state lists first now ring room (all_taken todo) started slots offers capacity idle idled) → AreAhead started slots todo → count_open slots ≡ 0 → started ≡ length offers
+all_started mach view Plain log state lists first now ring room todo started slots offers capacity idle idled x ahead none =
+    let left : length (all_taken todo) ≡ 0 = ap (λ l. length (all_taken l)) (none_ahead started slots todo ahead none) in
+    omega (arith, counts offers x.ms x.l.published (all_taken todo) x.entries, x.started_is, left)
+
 -- an idle partner whose files are told takes at most as many turns as there are offers
 pub prompt_end : {W : Type 0} (mach : schedule.Machine W) (view : W → Files) (Plain : W → Type 0) {P R : Type 0} (log : P → Option (List LogEvent)) (state : P → Option (schedule.State W)) (lists : R → Option Lists) (first now : P) (ring : R) (room : ℕ) (todo : List Taken) (started : ℕ) (slots : List Slot) (offers : List Offer) (capacity idle idled : ℕ)
     → ModelLaws mach view Plain → (x : Running mach view Plain log state lists first now ring room todo started slots offers capacity idle idled) → (a : schedule.State W) → state first ≡ Some a → IsPlainAndIdle Plain a → turns x.ms ≤ length offers
@@ -520,7 +544,7 @@ prompt_end mach view Plain log state lists first now ring room todo started slot
     omega (arith, few, counts offers x.ms x.l.published todo x.entries)
 
 -- the beginning
-pub running_first : {W : Type 0} (mach : schedule.Machine W) (view : W → Files) (Plain : W → Type 0) {P R : Type 0} (log : P → Option (List LogEvent)) (state : P → Option (schedule.State W)) (lists : R → Option Lists) (first : P) (ring : R) (room : ℕ) (todo : List Taken) (started : ℕ) (slots : List Slot) (offers : List Offer) (capacity idle : ℕ)
+unfoldable pub running_first : {W : Type 0} (mach : schedule.Machine W) (view : W → Files) (Plain : W → Type 0) {P R : Type 0} (log : P → Option (List LogEvent)) (state : P → Option (schedule.State W)) (lists : R → Option Lists) (first : P) (ring : R) (room : ℕ) (todo : List Taken) (started : ℕ) (slots : List Slot) (offers : List Offer) (capacity idle : ℕ)
     → ModelLaws mach view Plain → (l : Lists) → lists ring ≡ Some l → IsCalm l room → l.published ≡ [] → l.capacity ≡ capacity → todo ≡ all_taken offers → slots ≡ slots_from 0 offers [] → started ≡ 0 → (0 < l.capacity) × (0 < l.completion_capacity) → (jobs : List Job) → offers ≡ offers_from 0 jobs → AllValid jobs → AllInRange jobs
     → Running mach view Plain log state lists first first ring room todo started slots offers capacity idle 0
 running_first mach view Plain log state lists first ring room todo started slots offers capacity idle laws l told calm none size entries told_slots begun holds jobs offered valid range = record {

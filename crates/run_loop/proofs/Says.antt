@@ -1,5 +1,5 @@
 -- What a run tells, from what its rounds did.
-use Rattle.std.proofs.Common.{◌≡◌, ℕ, ◌+◌, ◌*◌, ◌<◌, ◌≤◌, Bool, true, false, List, [], ◌∷◌, ◌++◌, length, map, replicate, drop, IsSome, Result, Ok, Err, Option, Some, None, IfOk, IfErr, IfSome, refl, ap, sym, subst, ◌∙◌, arith}
+use Rattle.std.proofs.Common.{◌≡◌, ℕ, suc, ◌+◌, ◌*◌, ◌<◌, ◌≤◌, Bool, true, false, List, [], ◌∷◌, ◌++◌, length, map, replicate, drop, IsSome, Result, Ok, Err, Option, Some, None, IfOk, IfErr, IfSome, refl, ap, sym, subst, ◌∙◌, arith}
 use Rattle.std.specs.List.{AllByRecursion}
 use Rattle.std.proofs.lemmas.List.Elements.{All-from_recursion, recursion_from_All}
 use Rattle.std.proofs.Math.Seq.{drop-append_seam}
@@ -13,7 +13,7 @@ use Rattle.uring_model.specs.declared.jobs.RunFault.TheVariants as faults
 use Rattle.uring_model.specs.Jobs.{model_job, model_jobs, quiets_of}
 use Rattle.std.proofs.lemmas.List.{length-map}
 use Rattle.uring_model.specs.Replay.{last_unlinked, IsBusy, IsWhole, table}
-use Rattle.uring_model.specs.Moves.{Move, took, posted, quieted, event_of, journal_of, log_of, IsLogged}
+use Rattle.uring_model.specs.Moves.{Move, Turned, Took, Posted, Quieted, took, posted, quieted, event_of, journal_of, log_of, IsLogged}
 use Rattle.uring_model.specs.Partner.{job_of, idle}
 use Rattle.uring_model.specs.Partner as filed
 use Rattle.uring_model.specs.Machine.{Files}
@@ -34,8 +34,10 @@ use Rattle.run_loop.specs.declared.slot.Reply.{Reply}
 use Rattle.run_loop.specs.Entries.{offers_from, all_taken, reply_in, lends_in, lends_at, quiets_in, quiets_at, AllValid, AllInRange}
 use Rattle.run_loop.specs.Laws.{ModelLaws}
 use Rattle.run_loop.specs.Memory.{Explains, replayed_outcomes}
-use Rattle.run_loop.specs.Rounds.{is_partner_fault, is_stall, is_stranger_fault}
-use Rattle.run_loop.specs.Runs.{Ran, RunSays, outcomes_from, IsAnswered, IsFaulted}
+use Rattle.ring_traits.specs.Lists.{Advances}
+use Rattle.run_loop.proofs.Places.{advances_by}
+use Rattle.run_loop.specs.Rounds.{PlacesGoOn, is_partner_fault, is_stall, is_stranger_fault}
+use Rattle.run_loop.specs.Runs.{Ran, RunSays, PlacesRanOn, count_posts, outcomes_from, IsAnswered, IsFaulted}
 use Rattle.run_loop.specs.Slots.{count_open, slots_from}
 use Rattle.run_loop.proofs.EntryLemmas.{offers_count}
 use Rattle.run_loop.proofs.Asks.{asks_all, six_all, numbered_all, own_all, replies_first, asks, asks_list}
@@ -229,7 +231,7 @@ whole_explains mach view Plain laws jobs a b ms report valid f plain none answer
       fault = tt;
     }
 
-journal_gain : (o p : Option (List LogEvent)) (ms : List Move) (start : ℕ) (journal : List Event) → IsLogged o ms p → IfSome o (λ l. start ≡ length l) → IfSome p (λ l. journal ≡ map event_of (drop start l)) → IfSome o (λ _. journal ≡ journal_of (log_of ms))
+pub journal_gain : (o p : Option (List LogEvent)) (ms : List Move) (start : ℕ) (journal : List Event) → IsLogged o ms p → IfSome o (λ l. start ≡ length l) → IfSome p (λ l. journal ≡ map event_of (drop start l)) → IfSome o (λ _. journal ≡ journal_of (log_of ms))
 journal_gain None p ms start journal h s j = tt
 journal_gain (Some l) p ms start journal h s j =
     let told : journal ≡ map event_of (drop start (l ++ log_of ms)) = subst (λ x. IfSome x (λ l. journal ≡ map event_of (drop start l))) h j in
@@ -290,3 +292,25 @@ lacking (Err e) h = ap is_partner_fault h
 pub unplanned_lacking : {S T : Type 0} (state : Option S) (P : Type 0) (r : Result T RunFault) → IfErr r (λ e. e ≡ faults.NoMemory) → IfSome state (λ _. P → IfErr r (λ e. is_partner_fault e ≡ false))
 unplanned_lacking None P r h = tt
 unplanned_lacking (Some s) P r h = λ _. lacking r h
+
+-- the positions of the ring, by the journal
+
+posts_counted : (ms : List Move) → count_posts (journal_of (log_of ms)) ≡ length (posted ms)
+posts_counted [] = refl
+posts_counted (Turned p ∷ ms) = posts_counted ms
+posts_counted (Took t ∷ ms) = posts_counted ms
+posts_counted (Posted c ∷ ms) = ap suc (posts_counted ms)
+posts_counted (Quieted n ∷ ms) = posts_counted ms
+
+if_told : {A : Type 0} (o : Option A) (P Q : Type 0) → IfSome o (λ _. P) → (P → Q) → IfSome o (λ _. Q)
+if_told None P Q h f = tt
+if_told (Some a) P Q h f = f h
+
+pub places_ran : {R P : Type 0} (offer_place reap_place : R → ℕ) (log : P → Option (List LogEvent)) (old new : P) (before after : R) (jobs : List Job) (offers : List Offer) (ms : List Move) (start : ℕ) (journal : List Event)
+    → offers ≡ offers_from 0 jobs → PlacesGoOn offer_place reap_place before after (length offers) (length (posted ms)) → IsLogged (log old) ms (log new) → IfSome (log old) (λ l. start ≡ length l) → IfSome (log new) (λ l. journal ≡ map event_of (drop start l))
+    → PlacesRanOn offer_place reap_place log old before after (length jobs) journal
+places_ran offer_place reap_place log old new before after jobs offers ms start journal same places logs at told = (
+  advances_by (offer_place before) (offer_place after) (length offers) (length jobs) (ap length same ∙ offers_count 0 jobs) places.0,
+  if_told (log old) (journal ≡ journal_of (log_of ms)) (Advances (reap_place before) (count_posts journal) (reap_place after)) (journal_gain (log old) (log new) ms start journal logs at told)
+      (λ e. advances_by (reap_place before) (reap_place after) (length (posted ms)) (count_posts journal) (sym (ap count_posts e ∙ posts_counted ms)) places.1),
+)

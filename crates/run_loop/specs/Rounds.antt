@@ -8,7 +8,7 @@ use Rattle.uring_model.specs.declared.jobs.RunFault.{RunFault}
 use Rattle.uring_model.specs.declared.jobs.RunFault.TheVariants.{BadSize, BadJob, Stranger, Stalled, PartnerFault, NoMemory}
 use Rattle.uring_model.specs.Moves.{Move, took, posted, IsLogged}
 use Rattle.uring_model.specs.Schedule as schedule
-use Rattle.ring_traits.specs.Lists.{Lists, HasRoom, all_published, free_of}
+use Rattle.ring_traits.specs.Lists.{Lists, HasRoom, all_published, free_of, Advances}
 use Rattle.partner_traits.specs.declared.call.PartnerError.{PartnerError}
 use Rattle.partner_traits.specs.declared.call.PartnerError.TheVariants as errors
 use Rattle.rent_engine.specs.declared.fault.EngineFault.{EngineFault}
@@ -26,6 +26,10 @@ pub record IsCalm (l : Lists) (room : ℕ) : Type 0 where
   pub pushed : l.pushed ≡ []
   pub completions : l.completions ≡ []
   pub seen : room ≡ free_of l
+
+-- the positions of the next offer and of the next reap went on by so many
+abbrev pub PlacesGoOn : {R : Type 0} → (R → ℕ) → (R → ℕ) → R → R → ℕ → ℕ → Type 0
+PlacesGoOn offer_place reap_place from to offered reaped = Advances (offer_place from) offered (offer_place to) × Advances (reap_place from) reaped (reap_place to)
 
 -- the fault of a run, by a partner's error, and by an engine's
 

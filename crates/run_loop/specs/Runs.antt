@@ -1,8 +1,11 @@
 -- What a run of jobs promises over every partner.
-use Rattle.std.specs.Prelude.{◌≡◌, ℕ, ◌+◌, ◌*◌, ◌≤◌, ◌<◌, true, false, if◌then◌else◌, List, [], ◌∷◌, ◌++◌, length, map, Result, Option, Some, None, IfOk, IfErr, IfSome}
+use Rattle.std.specs.Prelude.{◌≡◌, ℕ, suc, ◌+◌, ◌*◌, ◌≤◌, ◌<◌, true, false, if◌then◌else◌, List, [], ◌∷◌, ◌++◌, length, map, Result, Ok, Err, Option, Some, None, IfOk, IfErr, IfSome}
 use Rattle.std.specs.Option.{option_map}
 use Rattle.uring_base.specs.declared.events.Taken.{Taken}
 use Rattle.uring_base.specs.declared.events.LogEvent.{LogEvent}
+use Rattle.uring_base.specs.declared.events.Event.{Event}
+use Rattle.uring_base.specs.declared.events.Event.TheVariants.{Turn, Take, Post, Quiet}
+use Rattle.ring_traits.specs.Lists.{Advances}
 use Rattle.uring_model.specs.declared.jobs.Job.{Job}
 use Rattle.uring_model.specs.declared.jobs.Outcome.{Outcome}
 use Rattle.uring_model.specs.declared.jobs.Report.{Report}
@@ -74,6 +77,25 @@ pub record RunSays {W : Type 0} (mach : schedule.Machine W) (view : W → Files)
   pub fault : IfErr result (IsFaulted jobs idle (log_of ran.moves))
   -- over a partner that tells its files and began idle
   pub memory : (a : schedule.State W) → state old ≡ Some a → IsPlainAndIdle Plain a → (b : schedule.State W) × (state new ≡ Some b) × Explains view Plain (model_jobs jobs) a ran.moves b result
+
+-- how many posts a journal has
+abbrev pub count_posts : List Event → ℕ
+count_posts [] = 0
+count_posts (Turn p ∷ events) = count_posts events
+count_posts (Take job ∷ events) = count_posts events
+count_posts (Post job result fin ∷ events) = suc (count_posts events)
+count_posts (Quiet job ∷ events) = count_posts events
+
+-- the positions of a ring after a run: one more for each job, and one more for each post, where the log is told
+abbrev pub PlacesRanOn : {R P : Type 0} → (R → ℕ) → (R → ℕ) → (P → Option (List LogEvent)) → P → R → R → ℕ → List Event → Type 0
+PlacesRanOn offer_place reap_place log partner before after jobs journal =
+    Advances (offer_place before) jobs (offer_place after)
+    × IfSome (log partner) (λ _. Advances (reap_place before) (count_posts journal) (reap_place after))
+
+-- the report of a run that gives its ring back
+abbrev pub report_in : {R : Type 0} → Result (Report × R) RunFault → Result Report RunFault
+report_in (Ok ran) = Ok ran.0
+report_in (Err fault) = Err fault
 
 -- sizes and jobs that a run takes
 pub record IsValidRun (sq cq : ℕ) (jobs : List Job) : Type 0 where

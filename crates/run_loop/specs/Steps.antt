@@ -1,8 +1,10 @@
 -- How a job's operation is begun and polled.
-use Rattle.std.specs.Prelude.{◌≡◌, ℕ, ◌+◌, Bool, true, bit_or, if◌then◌else◌, [], ◌∷◌, Option, Some, is_some, IfSome}
+use Rattle.std.specs.Prelude.{◌≡◌, ℕ, ◌+◌, Bool, true, bit_or, if◌then◌else◌, List, [], ◌∷◌, Option, Some, is_some, IfSome}
 use Rattle.uring_base.specs.FlagBits.{bits_in}
 use Rattle.uring_base.specs.declared.flags.TheConstants.Flags.{IO_DRAIN, IO_LINK, IO_HARDLINK}
 use Rattle.uring_base.specs.declared.squeue.Entry.{Entry}
+use Rattle.uring_base.specs.declared.events.Taken.{Taken}
+use Rattle.uring_base.specs.declared.events.Completion.{Completion}
 use Rattle.ring_traits.specs.Lists.{Lists, Becomes, small}
 use Rattle.uring_model.specs.declared.jobs.JobKind.{JobKind}
 use Rattle.uring_model.specs.declared.jobs.Link.{Link}
@@ -39,7 +41,8 @@ abbrev pub with_marks : ℕ → JobKind → Bool → ℕ → Entry
 with_marks n kind quiet bits = record (job_words n kind) { flags = skipping quiet (bit_or (job_words n kind).flags bits); user_data = n }
 
 -- The job's entry was offered under its number, with its buffer lent, and its operation is in flight.
-pub record IsBegun {R : Type 0} (lists : R → Option Lists) (room waiting : R → ℕ) (n : ℕ) (kind : JobKind) (quiet : Bool) (bits : ℕ) (before after : R) (ops ops' : Ops) (op : JobOp) : Type 0 where
+pub record IsBegun {R : Type 0} (used : R → List Taken → List Completion → R → Type 0) (lists : R → Option Lists) (room waiting : R → ℕ) (n : ℕ) (kind : JobKind) (quiet : Bool) (bits : ℕ) (before after : R) (ops ops' : Ops) (op : JobOp) : Type 0 where
+  pub uses : used before (small (with_marks n kind quiet bits) (job_loan n kind) ∷ []) [] after
   pub told : Becomes (lists before) (pushed_more (small (with_marks n kind quiet bits) (job_loan n kind) ∷ [])) (lists after)
   pub places : room before ≡ room after + 1
   pub seen : waiting after ≡ waiting before

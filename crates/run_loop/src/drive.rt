@@ -10,7 +10,7 @@ ghost use Rattle.uring_model.specs.Strange.{nothing_seen, first_strange};
 ghost use Rattle.ring_traits.specs.Lists.{Lists};
 ghost use Rattle.run_loop.specs.Entries.{offers_from, lends_in, quiets_in, AllValid, AllInRange};
 ghost use Rattle.uring_model.specs.declared.jobs.Job.{Job};
-ghost use Rattle.run_loop.specs.Rounds.{IsCalm, is_partner_fault, is_stall};
+ghost use Rattle.run_loop.specs.Rounds.{IsCalm, PlacesGoOn, is_partner_fault, is_stall};
 ghost use Rattle.run_loop.specs.Driven.{Driven, IsGivenUp};
 ghost use Rattle.run_loop.specs.Slots.{count_open, slots_from};
 ghost use Rattle.run_loop.specs.Flights.{IsSettled};
@@ -52,7 +52,8 @@ pub fn drive<R: UserEnds + PartnerSide, P: Partner>(
     ensures run { (r : Driven P.machine P.log P.state partner.old partner.new todo.old (R.entries_fit engine.old.ring) idle)
         × MatchResult result
         (λ _. (count_open table.new.slots.items ≡ 0) × (table.new.slots.items ≡ slots_from 0 todo.old (posted r.moves)) × (first_strange (lends_in todo.old) (quiets_in todo.old) nothing_seen (log_of r.moves) ≡ None)
-        × ((a : State P.World) → P.state partner.old ≡ Some a → IsPlainAndIdle P.Plain a → turns r.moves ≤ length todo.old))
+        × ((a : State P.World) → P.state partner.old ≡ Some a → IsPlainAndIdle P.Plain a → turns r.moves ≤ length todo.old)
+        × PlacesGoOn R.offer_place R.reap_place engine.old.ring engine.new.ring (length todo.old) (length (posted r.moves)))
         (λ e. IsGivenUp todo.old idle (log_of r.moves) e) }
     ensures cause { HasCause is_partner_fault (P.faults partner.old) (P.faults partner.new) result }
     ensures unplanned { IfSome (P.state partner.old) (λ _. P.plan partner.old ≡ [] → IfErr result (λ e. is_partner_fault e ≡ false)) }

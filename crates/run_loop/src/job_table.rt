@@ -108,6 +108,7 @@ impl JobTable {
     ) -> Result<(), AllocError>
         requires polls { CanBePolled engine.old.ops flight.job flight.op }
         requires resolved { IfSome (done_at engine.old.ops flight.job) (λ _. (quiet : Bool) × (slice_get self.old.slots.items flight.job ≡ Some (Slot.Open (reply_of flight.op) quiet))) }
+        ensures uses { R.used engine.old.ring [] [] engine.new.ring }
         ensures lists { R.lists engine.new.ring ≡ R.lists engine.old.ring }
         ensures room { R.room engine.new.ring ≡ R.room engine.old.ring }
         ensures ops { engine.new.ops ≡ taken_out flight.job engine.old.ops }
@@ -132,6 +133,7 @@ impl JobTable {
     ) -> Result<(), AllocError>
         requires operated { AreOperated engine.old.ops self.old.started self.old.slots.items (jobs_in_flight self.old.in_flight.items) }
         requires replied { AreReplied self.old.slots.items self.old.in_flight.items }
+        ensures uses { R.used engine.old.ring [] [] engine.new.ring }
         ensures lists { R.lists engine.new.ring ≡ R.lists engine.old.ring }
         ensures room { R.room engine.new.ring ≡ R.room engine.old.ring }
         ensures started { self.new.started ≡ self.old.started }

@@ -14,5 +14,6 @@ mod run;
 mod slot;
 mod starts;
 
-pub use run::run_jobs;
+pub use entries::first_bad_job;
+pub use run::{run_jobs, run_on};
 pub use uring_model::{Job, JobKind, Link, Outcome, Report, RunFault};

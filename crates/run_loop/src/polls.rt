@@ -1,6 +1,6 @@
 //! How a job's operation is polled.
 
-ghost use Rattle.std.specs.Prelude.{◌≡◌, ◌+◌, ◌≤◌, ℕ, ℤ, false, Some, None};
+ghost use Rattle.std.specs.Prelude.{[], ◌≡◌, ◌+◌, ◌≤◌, ℕ, ℤ, false, Some, None};
 ghost use Rattle.rent_fs.specs.Outputs.{counted, ended, IsSmall, IsSmallFault};
 ghost use Rattle.run_loop.specs.declared.slot.Reply.TheVariants as replies;
 ghost use Rattle.run_loop.specs.Told.{heard};
@@ -84,7 +84,8 @@ fn job_outcome(reply: Reply, done: OpDone) -> Outcome
 
 fn poll_read<R: UserEnds>(alloc: Global, engine: &mut Engine<R>, mut read: ReadAt) -> JobPoll
     requires { (n : ℕ) × CanBePolled engine.old.ops n (JobOp.Read read) }
-    ensures { (n : ℕ) → CanBePolled engine.old.ops n (JobOp.Read read) → IsPolled R.lists R.room R.waiting n (JobOp.Read read) engine.old.ring engine.new.ring engine.old.ops engine.new.ops result }
+    ensures uses { R.used engine.old.ring [] [] engine.new.ring }
+    ensures polled { (n : ℕ) → CanBePolled engine.old.ops n (JobOp.Read read) → IsPolled R.lists R.room R.waiting n (JobOp.Read read) engine.old.ring engine.new.ring engine.old.ops engine.new.ops result }
 {
     match read.poll(alloc, engine) {
         Poll::Pending => JobPoll::Pending(JobOp::Read(read)),
@@ -94,7 +95,8 @@ fn poll_read<R: UserEnds>(alloc: Global, engine: &mut Engine<R>, mut read: ReadA
 
 fn poll_write<R: UserEnds>(alloc: Global, engine: &mut Engine<R>, mut write: WriteAt) -> JobPoll
     requires { (n : ℕ) × CanBePolled engine.old.ops n (JobOp.Write write) }
-    ensures { (n : ℕ) → CanBePolled engine.old.ops n (JobOp.Write write) → IsPolled R.lists R.room R.waiting n (JobOp.Write write) engine.old.ring engine.new.ring engine.old.ops engine.new.ops result }
+    ensures uses { R.used engine.old.ring [] [] engine.new.ring }
+    ensures polled { (n : ℕ) → CanBePolled engine.old.ops n (JobOp.Write write) → IsPolled R.lists R.room R.waiting n (JobOp.Write write) engine.old.ring engine.new.ring engine.old.ops engine.new.ops result }
 {
     match write.poll(alloc, engine) {
         Poll::Pending => JobPoll::Pending(JobOp::Write(write)),
@@ -104,7 +106,8 @@ fn poll_write<R: UserEnds>(alloc: Global, engine: &mut Engine<R>, mut write: Wri
 
 fn poll_sync<R: UserEnds>(alloc: Global, engine: &mut Engine<R>, mut sync: Sync) -> JobPoll
     requires { (n : ℕ) × CanBePolled engine.old.ops n (JobOp.Sync sync) }
-    ensures { (n : ℕ) → CanBePolled engine.old.ops n (JobOp.Sync sync) → IsPolled R.lists R.room R.waiting n (JobOp.Sync sync) engine.old.ring engine.new.ring engine.old.ops engine.new.ops result }
+    ensures uses { R.used engine.old.ring [] [] engine.new.ring }
+    ensures polled { (n : ℕ) → CanBePolled engine.old.ops n (JobOp.Sync sync) → IsPolled R.lists R.room R.waiting n (JobOp.Sync sync) engine.old.ring engine.new.ring engine.old.ops engine.new.ops result }
 {
     match sync.poll(alloc, engine) {
         Poll::Pending => JobPoll::Pending(JobOp::Sync(sync)),
@@ -114,7 +117,8 @@ fn poll_sync<R: UserEnds>(alloc: Global, engine: &mut Engine<R>, mut sync: Sync)
 
 fn poll_plain<R: UserEnds>(engine: &mut Engine<R>, key: OpKey, reply: Reply) -> JobPoll
     requires { (n : ℕ) × CanBePolled engine.old.ops n (JobOp.Plain key reply) }
-    ensures { (n : ℕ) → CanBePolled engine.old.ops n (JobOp.Plain key reply) → IsPolled R.lists R.room R.waiting n (JobOp.Plain key reply) engine.old.ring engine.new.ring engine.old.ops engine.new.ops result }
+    ensures uses { R.used engine.old.ring [] [] engine.new.ring }
+    ensures polled { (n : ℕ) → CanBePolled engine.old.ops n (JobOp.Plain key reply) → IsPolled R.lists R.room R.waiting n (JobOp.Plain key reply) engine.old.ring engine.new.ring engine.old.ops engine.new.ops result }
 {
     match engine.poll(key) {
         OpPoll::Ready(done) => JobPoll::Ready(job_outcome(reply, done)),
@@ -126,7 +130,8 @@ fn poll_plain<R: UserEnds>(engine: &mut Engine<R>, key: OpKey, reply: Reply) -> 
 /// Polls a job's operation once.
 pub fn poll_job<R: UserEnds>(alloc: Global, engine: &mut Engine<R>, op: JobOp) -> JobPoll
     requires { (n : ℕ) × CanBePolled engine.old.ops n op }
-    ensures { (n : ℕ) → CanBePolled engine.old.ops n op → IsPolled R.lists R.room R.waiting n op engine.old.ring engine.new.ring engine.old.ops engine.new.ops result }
+    ensures uses { R.used engine.old.ring [] [] engine.new.ring }
+    ensures polled { (n : ℕ) → CanBePolled engine.old.ops n op → IsPolled R.lists R.room R.waiting n op engine.old.ring engine.new.ring engine.old.ops engine.new.ops result }
 {
     match op {
         JobOp::Read(read) => poll_read(alloc, engine, read),

@@ -3,8 +3,9 @@
 ghost use Rattle.std.specs.Prelude.{◌≡◌, ◌+◌, ◌⊎◌, ◌<◌, ◌≤◌, ◌^◌, ◌++◌, ◌∷◌, ◌||◌, nat_lt, [], List, Some, IfOk, IfErr, IfSome, OnOk, IsTrue, Contains, true, false, ℕ, length, vec_len};
 ghost use Rattle.uring_base.specs.declared.events.Taken.{Taken};
 ghost use Rattle.uring_base.specs.Causes.{HasCause};
+ghost use Rattle.uring_model.specs.Moves.{posted};
 ghost use Rattle.ring_traits.specs.Lists.{Lists, Becomes, small};
-ghost use Rattle.run_loop.specs.Rounds.{pushed_more, IsCalm, Round, engine_fault, is_partner_fault};
+ghost use Rattle.run_loop.specs.Rounds.{pushed_more, IsCalm, PlacesGoOn, Round, engine_fault, is_partner_fault};
 ghost use Rattle.uring_model.specs.Jobs.{model_job, is_valid_job};
 ghost use Rattle.run_loop.specs.Entries.{all_taken, job_entry, job_loan, offer_of};
 ghost use Rattle.run_loop.specs.Flights.{IsAhead, IsSettled, AreOperated, AreReplied, NoneResolved, jobs_in_flight};
@@ -33,6 +34,7 @@ fn start<R: UserEnds>(
     requires ahead { IsAhead table.old.started table.old.slots.items (offer_of next.number next.job) }
     requires room { 0 < R.room engine.old.ring }
     requires inside { table.old.started < vec_len table.old.slots }
+    ensures uses { OnOk result (R.used engine.old.ring (small (job_entry next.number next.job) (job_loan next.number next.job.kind) ∷ []) [] engine.new.ring) }
     ensures told { OnOk result (Becomes (R.lists engine.old.ring) (pushed_more (small (job_entry next.number next.job) (job_loan next.number next.job.kind) ∷ [])) (R.lists engine.new.ring)) }
     ensures room { OnOk result (R.room engine.old.ring ≡ R.room engine.new.ring + 1) }
     ensures waiting { OnOk result (R.waiting engine.new.ring ≡ R.waiting engine.old.ring) }
@@ -60,6 +62,7 @@ fn start_some<R: UserEnds>(
     requires inside { table.old.started + length todo.old ≤ vec_len table.old.slots }
     requires settled { IsSettled engine.old.ops table.old.started table.old.slots.items table.old.in_flight.items todo.old }
     ensures offered { OnOk result ((ts : List Taken) × (all_taken todo.old ≡ ts ++ all_taken todo.new)
+        × R.used engine.old.ring ts [] engine.new.ring
         × Becomes (R.lists engine.old.ring) (pushed_more ts) (R.lists engine.new.ring)
         × (R.room engine.old.ring ≡ R.room engine.new.ring + length ts)
         × (table.new.started ≡ table.old.started + length ts)) }
@@ -109,7 +112,8 @@ pub fn round<R: UserEnds + PartnerSide, P: Partner>(
     requires calm { (l : Lists) × (R.lists engine.old.ring ≡ Some l) × IsCalm l (R.room engine.old.ring) }
     requires inside { table.old.started + length todo.old ≤ vec_len table.old.slots }
     requires settled { IsSettled engine.old.ops table.old.started table.old.slots.items table.old.in_flight.items todo.old }
-    ensures round { OnOk result (Round P.machine P.log P.state R.lists R.kept partner.old partner.new engine.old.ring engine.new.ring (all_taken todo.old) (all_taken todo.new) table.new.started table.old.slots.items table.new.slots.items result) }
+    ensures round { OnOk result ((r : Round P.machine P.log P.state R.lists R.kept partner.old partner.new engine.old.ring engine.new.ring (all_taken todo.old) (all_taken todo.new) table.new.started table.old.slots.items table.new.slots.items result)
+        × PlacesGoOn R.offer_place R.reap_place engine.old.ring engine.new.ring (length r.ts) (length (posted r.ms))) }
     ensures inside { OnOk result (table.new.started + length todo.new ≡ table.old.started + length todo.old) }
     ensures calm { IfOk result (λ _. (l : Lists) × (R.lists engine.new.ring ≡ Some l) × IsCalm l (R.room engine.new.ring)) }
     ensures settled { OnOk result (IsSettled engine.new.ops table.new.started table.new.slots.items table.new.in_flight.items todo.new) }

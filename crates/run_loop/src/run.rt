@@ -10,7 +10,7 @@ ghost use Rattle.run_loop.specs.Entries.{AllValid, AllInRange};
 ghost use Rattle.run_loop.specs.Rounds.{IsCalm, is_partner_fault, is_refusal};
 ghost use Rattle.run_loop.specs.Slots.{count_open};
 ghost use Rattle.run_loop.specs.declared.slot.Slot.{Slot};
-ghost use Rattle.run_loop.specs.Runs.{RunSays, IsValidRun, refusal};
+ghost use Rattle.run_loop.specs.Runs.{RunSays, PlacesRanOn, IsValidRun, report_in, refusal};
 
 use crate::drive::drive;
 use crate::entries::first_bad_job;
@@ -64,21 +64,24 @@ fn report_of<P: Partner>(
     Ok(Report { outcomes, journal })
 }
 
-/// Runs valid jobs over an empty ring.
-fn run_over<R: UserEnds + PartnerSide + Drop, P: Partner>(
+/// Runs valid jobs over a ring in which nothing stands, as `run_jobs` does, and gives the ring
+/// back. `params` are those of a builder for the ring's two capacities. `first_bad_job` tells
+/// whether the jobs are valid. At a fault the ring is dropped.
+pub fn run_on<R: UserEnds + PartnerSide + Drop, P: Partner>(
     alloc: Global,
     ring: R,
     params: Parameters,
     idle: u32,
     partner: &mut P,
     jobs: Vec<Job>,
-) -> Result<Report, RunFault>
+) -> Result<(Report, R), RunFault>
     requires idle { 0 < idle }
     requires empty { (l : Lists) × (R.lists ring ≡ Some l) × IsCalm l (R.room ring) × (l.published ≡ []) }
     requires holds { (0 < R.entries_fit ring) × (0 < R.completions_fit ring) }
     requires valid { AllValid jobs.items }
     requires in_range { AllInRange jobs.items }
-    ensures says { RunSays P.machine P.view P.Plain P.log P.state partner.old partner.new jobs.items (R.entries_fit ring) idle result }
+    ensures says { RunSays P.machine P.view P.Plain P.log P.state partner.old partner.new jobs.items (R.entries_fit ring) idle (report_in result) }
+    ensures places { IfOk result (λ ran. PlacesRanOn R.offer_place R.reap_place P.log partner.old ring ran.1 (length jobs.items) ran.0.journal.items) }
     ensures cause { HasCause is_partner_fault (P.faults partner.old) (P.faults partner.new) result }
     ensures unplanned { IfSome (P.state partner.old) (λ _. P.plan partner.old ≡ [] → IfErr result (λ e. is_partner_fault e ≡ false)) }
     ensures plan { P.plan partner.old ≡ [] → P.plan partner.new ≡ [] }
@@ -93,7 +96,8 @@ fn run_over<R: UserEnds + PartnerSide + Drop, P: Partner>(
     let mut todo = OfferQueue::new(jobs);
     let mut engine = Engine::new(alloc, ring, params);
     drive(alloc, idle, &mut engine, partner, &mut todo, &mut table)?;
-    report_of(alloc, table, partner, start)
+    let report = report_of(alloc, table, partner, start)?;
+    Ok((report, engine.into_ring()))
 }
 
 /// An empty ring of these sizes, or no memory for it.
@@ -148,5 +152,6 @@ pub fn run_jobs<P: Partner>(
         return Err(RunFault::NoMemory);
     };
     let params = *ring.params();
-    run_over(alloc, ring, params, idle, partner, jobs)
+    let (report, _ring) = run_on(alloc, ring, params, idle, partner, jobs)?;
+    Ok(report)
 }

@@ -67,7 +67,7 @@ fn start_read<R: UserEnds>(
     requires unknown { knows engine.old.ops number ≡ false }
     requires room { 0 < R.room engine.old.ring }
     requires valid { is_valid_at offset buf ≡ true }
-    ensures begun { IfOk result (λ op. IsBegun R.lists R.room R.waiting number (JobKind.Read file offset buf) false (bits_in marks) engine.old.ring engine.new.ring engine.old.ops engine.new.ops op) }
+    ensures begun { IfOk result (λ op. IsBegun R.used R.lists R.room R.waiting number (JobKind.Read file offset buf) false (bits_in marks) engine.old.ring engine.new.ring engine.old.ops engine.new.ops op) }
     ensures memory { IfErr result (λ e. e ≡ RunFault.NoMemory) }
 {
     let read = File::of_number(file).read_at(buf, offset);
@@ -90,7 +90,7 @@ fn start_write<R: UserEnds>(
     requires unknown { knows engine.old.ops number ≡ false }
     requires room { 0 < R.room engine.old.ring }
     requires valid { is_valid_at offset buf ≡ true }
-    ensures begun { IfOk result (λ op. IsBegun R.lists R.room R.waiting number (JobKind.Write file offset buf) false (bits_in marks) engine.old.ring engine.new.ring engine.old.ops engine.new.ops op) }
+    ensures begun { IfOk result (λ op. IsBegun R.used R.lists R.room R.waiting number (JobKind.Write file offset buf) false (bits_in marks) engine.old.ring engine.new.ring engine.old.ops engine.new.ops op) }
     ensures memory { IfErr result (λ e. e ≡ RunFault.NoMemory) }
 {
     let write = File::of_number(file).write_at(buf, offset);
@@ -110,7 +110,7 @@ fn start_sync<R: UserEnds>(
 ) -> Result<JobOp, RunFault>
     requires unknown { knows engine.old.ops number ≡ false }
     requires room { 0 < R.room engine.old.ring }
-    ensures begun { IfOk result (λ op. IsBegun R.lists R.room R.waiting number (JobKind.Fsync file) false (bits_in marks) engine.old.ring engine.new.ring engine.old.ops engine.new.ops op) }
+    ensures begun { IfOk result (λ op. IsBegun R.used R.lists R.room R.waiting number (JobKind.Fsync file) false (bits_in marks) engine.old.ring engine.new.ring engine.old.ops engine.new.ops op) }
     ensures memory { IfErr result (λ e. e ≡ RunFault.NoMemory) }
 {
     let sync = File::of_number(file).sync_all();
@@ -131,7 +131,7 @@ fn start_plain<R: UserEnds>(
     requires unknown { knows engine.old.ops number ≡ false }
     requires room { 0 < R.room engine.old.ring }
     requires plain { reply_for kind ≡ replies.Plain }
-    ensures begun { IfOk result (λ op. IsBegun R.lists R.room R.waiting number kind false (bits_in marks) engine.old.ring engine.new.ring engine.old.ops engine.new.ops op) }
+    ensures begun { IfOk result (λ op. IsBegun R.used R.lists R.room R.waiting number kind false (bits_in marks) engine.old.ring engine.new.ring engine.old.ops engine.new.ops op) }
     ensures memory { IfErr result (λ e. e ≡ RunFault.NoMemory) }
 {
     let words = bare_words(kind);
@@ -156,7 +156,7 @@ fn start_quiet<R: UserEnds>(
     requires valid { is_valid_job false (model_job job) ≡ true }
     requires quiet { job.quiet ≡ true }
     requires bound { number + 1 < 2 ^ 64 }
-    ensures begun { IfOk result (λ op. IsBegun R.lists R.room R.waiting number job.kind true (mark_bits job.drain job.link) engine.old.ring engine.new.ring engine.old.ops engine.new.ops op) }
+    ensures begun { IfOk result (λ op. IsBegun R.used R.lists R.room R.waiting number job.kind true (mark_bits job.drain job.link) engine.old.ring engine.new.ring engine.old.ops engine.new.ops op) }
     ensures memory { IfErr result (λ e. e ≡ RunFault.NoMemory) }
 {
     let marks = marks(job.drain, job.link);
@@ -183,7 +183,7 @@ pub fn start_job<R: UserEnds>(
     requires room { 0 < R.room engine.old.ring }
     requires valid { is_valid_job false (model_job job) ≡ true }
     requires bound { number + 1 < 2 ^ 64 }
-    ensures begun { IfOk result (λ op. IsBegun R.lists R.room R.waiting number job.kind job.quiet (mark_bits job.drain job.link) engine.old.ring engine.new.ring engine.old.ops engine.new.ops op) }
+    ensures begun { IfOk result (λ op. IsBegun R.used R.lists R.room R.waiting number job.kind job.quiet (mark_bits job.drain job.link) engine.old.ring engine.new.ring engine.old.ops engine.new.ops op) }
     ensures memory { IfErr result (λ e. e ≡ RunFault.NoMemory) }
 {
     if job.quiet {

@@ -1,9 +1,9 @@
-use Rattle.std.proofs.Common.{◌≡◌, ℕ, ◌<◌, List, [], Contains, true, false, length, Option, Some, None, IfSome, inl, inr, refl, ap, sym, subst, ◌∙◌, arith}
+use Rattle.std.proofs.Common.{◌≡◌, ℕ, ◌<◌, List, [], Contains, true, false, length, Option, Some, None, IfSome, inl, inr, refl, ap, sym, subst, ◌∙◌, arith, length-append}
 use Rattle.std.proofs.lemmas.Result.{err_from_is_err_and}
 use Rattle.uring_model.specs.Machine.{Files}
 use Rattle.uring_model.specs.Schedule as schedule
 use Rattle.uring_model.specs.Refines.{IsPlainAndIdle}
-use Rattle.uring_model.specs.Moves.{Move, log_of}
+use Rattle.uring_model.specs.Moves.{Move, log_of, posted}
 use Rattle.uring_base.specs.declared.events.Taken.{Taken}
 use Rattle.uring_base.specs.declared.events.LogEvent.{LogEvent}
 use Rattle.uring_model.specs.declared.jobs.RunFault.{RunFault}
@@ -14,7 +14,8 @@ use Rattle.run_loop.specs.declared.slot.Slot.{Slot}
 use Rattle.run_loop.specs.Slots.{count_open}
 use Rattle.run_loop.specs.Driven.{Driven, IsGivenUp}
 use Rattle.run_loop.proofs.Posts.{slots-length}
-use Rattle.run_loop.proofs.Running.{Running, few_open, running_first, running_next, running_ran, next_faulted, next_smaller, prompt_end, stalled_end, whole_end, some_open, left_open, if_some, slots_stay, smaller, idled_below, next_of}
+use Rattle.run_loop.proofs.Running.{Running, few_open, running_first, running_next, running_ran, next_faulted, next_smaller, prompt_end, stalled_end, whole_end, some_open, left_open, if_some, slots_stay, smaller, idled_below, next_of, started_more, all_started, next_moves}
+use Rattle.run_loop.proofs.Places.{advances_none, advances_by, places_then}
 use Rattle.run_loop.proofs.drive.drive.Goals as goal
 
 -- with nothing planned at first, one more round leaves the count of faults as the rounds before it did
@@ -26,6 +27,7 @@ still_calm mach (Some a) None ms before now first faults faults' served empty ca
 still_calm mach (Some a) (Some b) ms before now first faults faults' served empty calm counted = λ e. counted (λ has. let h = subst (λ l. Contains l 1) (empty e) has in absurd (omega (arith, h.1))) ∙ calm e
 
 pub rounds-init : goal.rounds-init
+unfolding running_first
 rounds-init g c =
     let e = c.requires.empty in
     let h = c.requires.holds in
@@ -39,6 +41,7 @@ rounds-init g c =
       λ p. p,
       c.requires.settled,
       if_some (g.P.Partner.state c.args.partner.now) (λ _. g.P.Partner.plan c.args.partner.now ≡ [] → g.P.Counts.faults c.args.partner.now ≡ g.P.Counts.faults c.args.partner.now) (λ _ _ _. refl),
+      (advances_by _ _ 0 _ (sym slots.1) (advances_none _), advances_none _),
     )
 
 -- no start, since memory lacked: the run so far
@@ -70,16 +73,21 @@ pub returns-then-idled-idle-clause-run : goal.returns-then-idled-idle-clause-run
 returns-then-idled-idle-clause-run g c =
     let s = c.rounds.invariant in
     let d = c.in_ok-went.ensures in
-    let x = next_of _ _ _ _ _ _ _ _ _ _ _ _ _ _ _ _ _ _ _ c.args.todo.now _ _ _ _ c.model_laws.ensures s.0 d.round g.R.Rings.keeps d.inside (some_open _ _ c.is_whole.ensures.1 c.rounds-test.true) s.1 in
+    let x = next_of _ _ _ _ _ _ _ _ _ _ _ _ _ _ _ _ _ _ _ c.args.todo.now _ _ _ _ c.model_laws.ensures s.0 d.round.0 g.R.Rings.keeps d.inside (some_open _ _ c.is_whole.ensures.1 c.rounds-test.true) s.1 in
     let y = running_next _ _ _ _ _ _ _ _ _ _ _ _ _ _ _ _ _ _ _ c.args.todo.now _ _ _ _ _ c.idle_after-idled.result x d.calm c.idle_after-idled.ensures in
     let e = stalled_end _ _ _ _ _ _ _ _ _ _ _ _ _ c.args.todo.now _ _ _ y c.if-idled-idle.true (left_open _ _ _ y.resting c.if-idled-idle.true c.requires.idle) in
     (running_ran _ _ _ _ _ _ _ _ _ _ _ _ _ c.args.todo.now _ _ _ y e.0, e.1)
+
+pub returns-then-idled-idle-clause-calm : goal.returns-then-idled-idle-clause-calm
+returns-then-idled-idle-clause-calm g c =
+    let s = c.rounds.invariant in
+    still_calm _ _ _ _ _ _ _ _ _ s.0.states s.4 s.6 c.in_ok-went.ensures.counted
 
 pub returns-then-idled-idle-clause-unstalled : goal.returns-then-idled-idle-clause-unstalled
 returns-then-idled-idle-clause-unstalled g c =
     let s = c.rounds.invariant in
     let d = c.in_ok-went.ensures in
-    let x = next_of _ _ _ _ _ _ _ _ _ _ _ _ _ _ _ _ _ _ _ c.args.todo.now _ _ _ _ c.model_laws.ensures s.0 d.round g.R.Rings.keeps d.inside (some_open _ _ c.is_whole.ensures.1 c.rounds-test.true) s.1 in
+    let x = next_of _ _ _ _ _ _ _ _ _ _ _ _ _ _ _ _ _ _ _ c.args.todo.now _ _ _ _ c.model_laws.ensures s.0 d.round.0 g.R.Rings.keeps d.inside (some_open _ _ c.is_whole.ensures.1 c.rounds-test.true) s.1 in
     let y = running_next _ _ _ _ _ _ _ _ _ _ _ _ _ _ _ _ _ _ _ c.args.todo.now _ _ _ _ _ c.idle_after-idled.result x d.calm c.idle_after-idled.ensures in
     if_some (g.P.Partner.state c.args.partner.now) (λ a. IsPlainAndIdle g.P.Partner.Plain a → true ≡ false) (λ a told idle. absurd (omega (arith, (y.prompt a told idle).0, c.if-idled-idle.true, c.requires.idle)))
 
@@ -87,14 +95,14 @@ pub rounds-smaller : goal.rounds-smaller
 rounds-smaller g c =
     let s = c.rounds.invariant in
     let d = c.in_ok-went.ensures in
-    let x = next_of _ _ _ _ _ _ _ _ _ _ _ _ _ _ _ _ _ _ _ c.args.todo.now _ _ _ _ c.model_laws.ensures s.0 d.round g.R.Rings.keeps d.inside (some_open _ _ c.is_whole.ensures.1 c.rounds-test.true) s.1 in
+    let x = next_of _ _ _ _ _ _ _ _ _ _ _ _ _ _ _ _ _ _ _ c.args.todo.now _ _ _ _ c.model_laws.ensures s.0 d.round.0 g.R.Rings.keeps d.inside (some_open _ _ c.is_whole.ensures.1 c.rounds-test.true) s.1 in
     smaller c.in_ok-went.went _ _ _ _ _ (next_smaller _ _ _ _ _ _ _ _ _ _ _ _ _ _ _ _ _ _ _ c.args.todo.now _ _ _ _ x) c.idle_after-idled.ensures (omega (arith, s.1))
 
 pub rounds-preserved : goal.rounds-preserved
 rounds-preserved g c =
     let s = c.rounds.invariant in
     let d = c.in_ok-went.ensures in
-    let x = next_of _ _ _ _ _ _ _ _ _ _ _ _ _ _ _ _ _ _ _ c.args.todo.now _ _ _ _ c.model_laws.ensures s.0 d.round g.R.Rings.keeps d.inside (some_open _ _ c.is_whole.ensures.1 c.rounds-test.true) s.1 in
+    let x = next_of _ _ _ _ _ _ _ _ _ _ _ _ _ _ _ _ _ _ _ c.args.todo.now _ _ _ _ c.model_laws.ensures s.0 d.round.0 g.R.Rings.keeps d.inside (some_open _ _ c.is_whole.ensures.1 c.rounds-test.true) s.1 in
     let y = running_next _ _ _ _ _ _ _ _ _ _ _ _ _ _ _ _ _ _ _ c.args.todo.now _ _ _ _ _ c.idle_after-idled.result x d.calm c.idle_after-idled.ensures in
     let before = slots_stay _ _ _ _ _ _ _ _ _ _ _ _ _ c.args.todo.now _ _ _ s.0 in
     let after = slots_stay _ _ _ _ _ _ _ _ _ _ _ _ _ c.args.todo.now _ _ _ y in (
@@ -105,10 +113,11 @@ rounds-preserved g c =
       λ p. d.plan (s.4 p),
       d.settled,
       still_calm _ _ _ _ _ _ _ _ _ s.0.states s.4 s.6 d.counted,
+      places_then g.R.Rings.offer_place g.R.Rings.reap_place c.args.engine.now.ring c.rounds.engine.ring c.round.new.engine.ring _ _ _ _ _ _ s.7 d.round.1 (started_more _ _ _ _ _ d.round.0.offered d.inside) (sym (length-append (posted s.0.ms) (posted d.round.0.ms)) ∙ ap length (sym (c.model_laws.ensures.join.posts s.0.ms d.round.0.ms)) ∙ ap (λ ms. length (posted ms)) (sym (next_moves _ _ _ _ _ _ _ _ _ _ _ _ _ _ _ _ _ _ _ c.args.todo.now _ _ _ _ _ c.idle_after-idled.result x d.calm c.idle_after-idled.ensures))),
     )
 
 pub returns-clause-run : goal.returns-clause-run
 returns-clause-run g c =
     let s = c.rounds.invariant in
     let none = c.is_whole.ensures.0 c.rounds-test.false in
-    (running_ran _ _ _ _ _ _ _ _ _ _ _ _ _ c.args.todo.now _ _ _ s.0 (whole_end _ _ _ _ _ _ _ _ _ _ _ _ _ c.args.todo.now _ _ _ s.0 none), (none, s.0.told_slots, s.0.expected, λ a told idle. prompt_end _ _ _ _ _ _ _ _ _ _ _ _ _ c.args.todo.now _ _ _ c.model_laws.ensures s.0 a told idle))
+    (running_ran _ _ _ _ _ _ _ _ _ _ _ _ _ c.args.todo.now _ _ _ s.0 (whole_end _ _ _ _ _ _ _ _ _ _ _ _ _ c.args.todo.now _ _ _ s.0 none), (none, s.0.told_slots, s.0.expected, (λ a told idle. prompt_end _ _ _ _ _ _ _ _ _ _ _ _ _ c.args.todo.now _ _ _ c.model_laws.ensures s.0 a told idle), (advances_by _ _ _ _ (all_started _ _ _ _ _ _ _ _ _ _ _ _ _ c.args.todo.now _ _ _ s.0 s.5.ahead none) s.7.0, s.7.1)))

@@ -1,7 +1,9 @@
 use Rattle.std.proofs.Common.{◌≡◌, ◌+◌, ◌-◌, ◌*◌, ◌<◌, ◌≤◌, [], length, IfSome}
+use Rattle.uring_model.specs.Moves.{posted}
 use Rattle.run_loop.specs.Entries.{all_taken}
 use Rattle.run_loop.specs.Slots.{count_open}
 use Rattle.run_loop.specs.Flights.{IsSettled}
+use Rattle.run_loop.specs.Rounds.{PlacesGoOn}
 use Rattle.run_loop.proofs.Running.{Running, untaken}
 use Rattle.run_loop.proofs.drive.drive.Given as goal
 
@@ -15,6 +17,7 @@ invariant-rounds g l =
     × (g.P.Partner.plan l.initial.partner ≡ [] → g.P.Partner.plan l.partner ≡ [])
     × IsSettled l.engine.ops l.table.started l.table.slots.items l.table.in_flight.items l.todo
     × IfSome (g.P.Partner.state l.initial.partner) (λ _. g.P.Partner.plan l.initial.partner ≡ [] → g.P.Counts.faults l.partner ≡ g.P.Counts.faults l.initial.partner)
+    × PlacesGoOn g.R.Rings.offer_place g.R.Rings.reap_place l.initial.engine.ring l.engine.ring l.table.started (length (posted w.ms))
 
 -- what is open or untaken, and how many more turns may be idle
 abbrev pub decreases-rounds : goal.decreases-rounds

@@ -14,15 +14,16 @@ starts-preserved g c =
       s.0 ++ t ∷ [],
       s.1 ∙ ap (λ l. s.0 ++ all_taken l) c.in-Some.ensures.front ∙ sym (append_assoc s.0 (t ∷ []) (all_taken c.pop_front.new.self)),
       omega (arith, s.2, count, d.started),
-      offers_joined _ _ _ _ _ s.3 d.told,
-      simp length-append (omega (arith, s.4, d.room)),
-      simp length-append (omega (arith, s.5, d.started)),
-      d.slots ∙ s.6,
-      d.waiting ∙ s.7,
+      g.met.R.UserEnds.used_then _ _ _ s.0 (t ∷ []) [] [] s.3 d.uses,
+      offers_joined _ _ _ _ _ s.4 d.told,
+      simp length-append (omega (arith, s.5, d.room)),
+      simp length-append (omega (arith, s.6, d.started)),
+      d.slots ∙ s.7,
+      d.waiting ∙ s.8,
       record {
         operated = d.operated;
         replied = d.replied;
         none = d.none;
-        ahead = ahead_next _ _ _ _ _ _ _ s.8.ahead c.in-Some.ensures.front d.started d.slots;
+        ahead = ahead_next _ _ _ _ _ _ _ s.9.ahead c.in-Some.ensures.front d.started d.slots;
       },
     )

@@ -1,4 +1,4 @@
-use Rattle.std.proofs.Common.{◌≡◌, ◌+◌, List, ◌++◌, length}
+use Rattle.std.proofs.Common.{◌≡◌, ◌+◌, List, [], ◌++◌, length}
 use Rattle.uring_base.specs.declared.events.Taken.{Taken}
 use Rattle.ring_traits.specs.Lists.{Becomes}
 use Rattle.run_loop.specs.Entries.{all_taken}
@@ -11,6 +11,7 @@ abbrev pub invariant-starts : goal.invariant-starts
 invariant-starts g l =
     (ts : List Taken) × (all_taken l.initial.todo ≡ ts ++ all_taken l.todo)
     × (l.table.started + length l.todo ≡ l.initial.table.started + length l.initial.todo)
+    × g.R.UserEnds.used l.initial.engine.ring ts [] l.engine.ring
     × Becomes (g.R.Rings.lists l.initial.engine.ring) (pushed_more ts) (g.R.Rings.lists l.engine.ring)
     × (g.R.UserEnds.room l.initial.engine.ring ≡ g.R.UserEnds.room l.engine.ring + length ts)
     × (l.table.started ≡ l.initial.table.started + length ts)

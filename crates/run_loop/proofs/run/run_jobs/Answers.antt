@@ -11,8 +11,8 @@ returns-in_default-ring_of-clause-run g c = λ v.
     says_fault _ _ _ c.model_laws.ensures _ _ _ _ c.args.jobs.items (rounded_up c.args.sq) _ faults.NoMemory (subst AllValid c.deref.ensures.value c.in_default.ensures.none) (subst AllInRange c.deref.ensures.value c.in_default.ensures.in_range)
     (not_driven g.P.Partner.machine g.P.Partner.view g.P.Partner.Plain c.model_laws.ensures g.P.Partner.log g.P.Partner.state c.args.partner.now c.args.jobs.items (rounded_up c.args.sq) c.args.idle) tt (not_stalled _ _)
 
-pub run_over-requires-clause-empty : goal.run_over-requires-clause-empty
-run_over-requires-clause-empty g c = opened_calm c.in-Ok.ring _ _ _ c.in-Ok.ensures.ok
+pub run_on-requires-clause-empty : goal.run_on-requires-clause-empty
+run_on-requires-clause-empty g c = opened_calm c.in-Ok.ring _ _ _ c.in-Ok.ensures.ok
 
-pub run_over-requires-clause-holds : goal.run_over-requires-clause-holds
-run_over-requires-clause-holds g c = opened_holds c.in-Ok.ring c.args.sq c.args.cq _ c.in-Ok.ensures.ok
+pub run_on-requires-clause-holds : goal.run_on-requires-clause-holds
+run_on-requires-clause-holds g c = opened_holds c.in-Ok.ring c.args.sq c.args.cq _ c.in-Ok.ensures.ok

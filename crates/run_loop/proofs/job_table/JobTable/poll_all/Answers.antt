@@ -23,6 +23,7 @@ loop-left-init g c =
       refl,
       c.requires.replied,
       refl,
+      g.met.R.UserEnds.used_none c.args.engine.now.ring,
     )
 
 pub poll_one-requires-clause-polls : goal.poll_one-requires-clause-polls
@@ -54,7 +55,11 @@ loop-left-preserved g c =
       d.room ∙ s.8,
       replied_next c.loop-left.self.slots.items c.poll_one.new.self.slots.items c.loop-left.self.in_flight.items c.in-Some.flight c.pop_front.new.self.items c.poll_one.new.self.in_flight.items (polled c.loop-left.engine.ops c.in-Some.flight.job) s.9 c.in-Some.ensures.items d.slots d.replied,
       d.started ∙ s.10,
+      g.met.R.UserEnds.used_then _ _ _ [] [] [] [] s.11 d.uses,
     )
+
+pub returns-in_err-poll_one-in-Some-clause-uses : goal.returns-in_err-poll_one-in-Some-clause-uses
+returns-in_err-poll_one-in-Some-clause-uses g c = g.met.R.UserEnds.used_then _ _ _ [] [] [] [] c.loop-left.invariant.11 c.poll_one.ensures.uses
 
 pub returns-clause-slots : goal.returns-clause-slots
 returns-clause-slots g c =

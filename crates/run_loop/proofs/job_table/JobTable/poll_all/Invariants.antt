@@ -1,4 +1,4 @@
-use Rattle.std.proofs.Common.{◌≡◌, ℕ, List, ◌++◌, length}
+use Rattle.std.proofs.Common.{◌≡◌, ℕ, List, [], ◌++◌, length}
 use Rattle.run_loop.specs.Flights.{AreOperated, AreReplied, all_polled, jobs_in_flight}
 use Rattle.run_loop.proofs.FlightLemmas.{NoneLeftResolved}
 use Rattle.run_loop.proofs.job_table.JobTable.poll_all.Given as goal
@@ -15,6 +15,7 @@ invariant-loop-left g l =
     × (g.R.UserEnds.room l.engine.ring ≡ g.R.UserEnds.room l.initial.engine.ring)
     × AreReplied l.self.slots.items l.self.in_flight.items
     × (l.self.started ≡ l.initial.self.started)
+    × g.R.UserEnds.used l.initial.engine.ring [] [] l.engine.ring
 
 abbrev pub decreases-loop-left : goal.decreases-loop-left
 decreases-loop-left g l = l.left
