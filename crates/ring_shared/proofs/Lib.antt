@@ -1,0 +1,12 @@
+pub mod Sizes
+pub mod HeldSlots
+pub mod SlotActs
+pub mod Lists
+pub mod RuleKept
+pub mod SenderKept
+pub mod TakerKept
+pub mod Made
+pub mod CoreSteps
+pub mod LocalKept
+pub mod LocalShown
+pub mod TakenItems

@@ -1,0 +1,9 @@
+pub mod Sizes
+pub mod HeldSlots
+pub mod Rule
+pub mod WordSteps
+pub mod Sound
+pub mod Ends
+pub mod StateParts
+pub mod LocalSound
+pub mod LocalHeld

@@ -1,0 +1,23 @@
+-- The part of a core that an end has. Items stand in the core by numbers, whichever they are.
+use Rattle.std.specs.Prelude.{◌≡◌, ℕ, length, map, take}
+use Rattle.ring_core.specs.RingState.{RingState}
+use Rattle.ring_shared.specs.declared.ring.SendEnd.{SendEnd}
+use Rattle.ring_shared.specs.declared.ring.TakeEnd.{TakeEnd}
+use Rattle.ring_shared.specs.Ends.{sent, published, head_loaded, send_capacity, seen, taken, head_published, take_capacity}
+
+module _ {T : Type 0} (number : T → ℕ) where
+  -- the sender of this machine stands where the end does
+  pub record IsSenderIn (m : RingState) (e : SendEnd T) : Type 0 where
+    pub capacity : m.capacity ≡ send_capacity e
+    pub values : m.values ≡ map number (sent e)
+    pub next_put : m.next_put ≡ length (sent e)
+    pub tail : m.tail ≡ published e
+    pub head_seen : m.head_seen ≡ head_loaded e
+
+  -- and the taker
+  pub record IsTakerIn (m : RingState) (e : TakeEnd T) : Type 0 where
+    pub capacity : m.capacity ≡ take_capacity e
+    pub values : take m.tail_seen m.values ≡ map number (seen e)
+    pub tail_seen : m.tail_seen ≡ length (seen e)
+    pub next_take : m.next_take ≡ taken e
+    pub head : m.head ≡ head_published e
