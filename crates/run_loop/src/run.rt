@@ -1,9 +1,11 @@
 //! Jobs, run from one end to the other.
 
-ghost use Rattle.std.specs.Prelude.{◌≡◌, ◌<◌, ◌↔◌, ◌∷◌, [], List, IfOk, IfErr, IfSome, IsSome, IsTrue, OnOk, Option, Some, None, true, false, is_none, map, drop, length};
+ghost use Rattle.std.specs.Prelude.{◌≡◌, ◌<◌, ◌≤◌, ◌↔◌, ◌∷◌, [], List, IfOk, IfErr, IfSome, IsSome, IsTrue, OnOk, Option, Some, None, true, false, is_none, map, drop, length};
 ghost use Rattle.uring_base.specs.Causes.{HasCause};
 ghost use Rattle.uring_base.specs.Sizes.{rounded_up, is_valid_size};
-ghost use Rattle.uring_ring.specs.IoUring.{IsOpened};
+ghost use Rattle.uring_base.specs.declared.limits.TheConstants.{MAX_ENTRIES};
+ghost use Rattle.ring_core.specs.Positions.{is_ring_size};
+ghost use Rattle.ring_setup.specs.Setup.{told_entries, told_completions};
 ghost use Rattle.uring_model.specs.Moves.{event_of};
 ghost use Rattle.ring_traits.specs.Lists.{Lists};
 ghost use Rattle.run_loop.specs.Entries.{AllValid, AllInRange};
@@ -20,11 +22,13 @@ use crate::offers::OfferQueue;
 use crate::slot::Slot;
 use partner_traits::Partner;
 use rent_engine::Engine;
+use ring_core::SetupError;
+use ring_setup::{Parameters, Settings};
 use ring_traits::{PartnerSide, UserEnds};
 use std::alloc::{AllocError, Global};
 use uring_base::Event;
 use uring_model::{Job, Report, RunFault};
-use uring_ring::{Builder, IoUring, Parameters, SetupError};
+use uring_shared::SharedRings;
 
 /// The events that a partner's log has from `start` on.
 fn journal_since<P: Partner>(
@@ -100,22 +104,17 @@ pub fn run_on<R: UserEnds + PartnerSide + Drop, P: Partner>(
     Ok((report, engine.into_ring()))
 }
 
-/// An empty ring of these sizes, or no memory for it.
-fn ring_of(alloc: Global, sq: u32, cq: u32, start: u32) -> Result<IoUring, SetupError>
-    requires { is_valid_size sq cq ≡ true }
-    ensures ok { IfOk result (λ ring. IsOpened ring (rounded_up sq) (rounded_up cq) start) }
+/// The parameters of rings of these sizes, as a builder gives them without other options.
+fn parameters_of(sq: u32, cq: u32) -> Result<Parameters, SetupError>
+    ensures ok { IfOk result (λ parameters. (is_valid_size sq cq ≡ true) × (told_entries parameters ≡ rounded_up sq) × (told_completions parameters ≡ rounded_up cq)) }
+    ensures sizes { IfOk result (λ parameters. (is_ring_size (told_entries parameters) ≡ true) × (is_ring_size (told_completions parameters) ≡ true) × (told_entries parameters ≤ MAX_ENTRIES)) }
+    ensures err { IfErr result (λ _. is_valid_size sq cq ≡ false) }
 {
-    let mut builder = IoUring::builder();
-    builder.setup_cqsize(cq).start(start);
-    builder.build(alloc, sq)
-}
-
-/// Whether these are sizes of rings.
-fn is_valid_size(sq: u32, cq: u32) -> bool
-    ensures { result ≡ is_valid_size sq cq }
-{
-    let mut builder: Builder = IoUring::builder();
-    builder.setup_cqsize(cq).parameters(sq).is_ok()
+    let settings = Settings {
+        cq_entries: Some(cq),
+        ..Settings::new(0)
+    };
+    settings.parameters(sq)
 }
 
 /// Runs the jobs over a ring of these sizes and the partner, and tells each outcome and the
@@ -141,17 +140,17 @@ pub fn run_jobs<P: Partner>(
     ensures plan { P.plan partner.old ≡ [] → P.plan partner.new ≡ [] }
     ensures calm { IfSome (P.state partner.old) (λ _. P.plan partner.old ≡ [] → P.faults partner.new ≡ P.faults partner.old) }
 {
-    if !is_valid_size(sq, cq) {
+    let Ok(parameters) = parameters_of(sq, cq) else {
         return Err(RunFault::BadSize);
-    }
+    };
     if let Some(job) = first_bad_job(&jobs) {
         return Err(RunFault::BadJob(job));
     }
     model_laws::<P>();
-    let Ok(ring) = ring_of(alloc, sq, cq, start) else {
+    let (entries, completions) = (parameters.sq_entries(), parameters.cq_entries());
+    let Ok(ring) = SharedRings::new(alloc, entries, completions, start) else {
         return Err(RunFault::NoMemory);
     };
-    let params = *ring.params();
-    let (report, _ring) = run_on(alloc, ring, params, idle, partner, jobs)?;
+    let (report, _ring) = run_on(alloc, ring, parameters, idle, partner, jobs)?;
     Ok(report)
 }

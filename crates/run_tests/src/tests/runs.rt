@@ -1,9 +1,12 @@
-use run_loop::{Job, JobKind, Link, RunFault, run_jobs};
+use ring_setup::Settings;
+use ring_traits::UserEnds;
+use run_loop::{Job, JobKind, Link, RunFault, first_bad_job, run_jobs, run_on};
 use std::alloc::{AllocError, Global};
 use std::process::Abort;
 use std::test::Fail;
 use uring_base::{Buf, Event};
 use uring_partner::{HostilePartner, LoanPlan, MemoryPartner, Partner, Scripted, Seedable};
+use uring_shared::SharedRings;
 
 fn free(kind: JobKind) -> Job {
     Job {
@@ -131,6 +134,46 @@ fn idle_turns(rt: HostRuntime) -> Result<(), Fail> {
     let run = run_jobs(alloc, 8, 16, 0, 2, &mut partner, jobs);
     assert!(rt; matches!(run, Err(RunFault::Stalled)));
     assert_eq!(rt; partner.log_len(), 4);
+    Ok(())
+}
+
+/// The positions of a ring of 2 entries and 4 completions before and after a run on it.
+#[tactic(auto, unfolding(ring_core::specs::Positions::is_ring_size))]
+fn places_around(
+    alloc: Global,
+    start: u32,
+    partner: &mut MemoryPartner,
+    jobs: Vec<Job>,
+) -> Option<((u32, u32), (u32, u32))> {
+    let settings = Settings {
+        cq_entries: Some(4),
+        ..Settings::new(0)
+    };
+    let Ok(parameters) = settings.parameters(2) else {
+        return None;
+    };
+    let Ok(ring) = SharedRings::new(alloc, 2, 4, start) else {
+        return None;
+    };
+    if first_bad_job(&jobs).is_some() {
+        return None;
+    }
+    let before = ring.places();
+    let (_report, ring) = run_on(alloc, ring, parameters, 2, partner, jobs).ok()?;
+    Some((before, ring.places()))
+}
+
+/// A ring that is handed in goes through the run: two jobs and two posts.
+#[test]
+fn on_a_ring(rt: HostRuntime) -> Result<(), Fail> {
+    let alloc = rt.alloc();
+    let mut partner = MemoryPartner::new(alloc);
+    let mut jobs = one(alloc, JobKind::Nop)?;
+    jobs.push(free(JobKind::Nop))?;
+    assert_eq!(rt;
+        places_around(alloc, u32::MAX, &mut partner, jobs),
+        Some(((u32::MAX, u32::MAX), (1, 1)))
+    );
     Ok(())
 }
 
