@@ -2,7 +2,9 @@
 //! All of it stands in run_loop, uring_streams and uring_text; this crate only names it again.
 #![tactic(auto)]
 
-pub use run_loop::{Job, JobKind, Link, Outcome, Report, RunFault, first_bad_job, run_jobs, run_on};
+pub use run_loop::{
+    Job, JobKind, Link, Outcome, Report, RunFault, first_bad_job, run_jobs, run_on,
+};
 pub use uring_streams::{
     Failed, InputFault, MemorySink, MemorySource, Sink, Source, StdSink, StdSource, read_all,
     write_all,
