@@ -302,15 +302,15 @@ next_posts : {W : Type 0} (mach : schedule.Machine W) (view : W → Files) (Plai
 next_posts mach view Plain log state lists kept first now new from to room todo todo' started started' slots slots' offers capacity idle idled went x =
     ap (λ y. stranger_among started' y (posted x.round.ms)) (sym x.run.told_slots)
     ∙ sym (stranger_kept kept x.keeps started' slots (posted x.round.ms))
-    ∙ x.round.ends.1
+    ∙ x.round.ends.0
 
 next_slots : {W : Type 0} (mach : schedule.Machine W) (view : W → Files) (Plain : W → Type 0) {P R : Type 0} (log : P → Option (List LogEvent)) (state : P → Option (schedule.State W)) (lists : R → Option Lists) (kept : Completion → Completion) (first now new : P) (from to : R) (room : ℕ) (todo todo' : List Taken) (started started' : ℕ) (slots slots' : List Slot) (offers : List Offer) (capacity idle idled : ℕ) (went : Bool) (x : Next mach view Plain log state lists kept first now new from to room todo todo' started started' slots slots' offers capacity idle idled (Ok went)) → slots' ≡ land_all slots (posted x.round.ms)
 next_slots mach view Plain log state lists kept first now new from to room todo todo' started started' slots slots' offers capacity idle idled went x =
-    x.round.ends.2 ∙ land_kept kept x.keeps slots (posted x.round.ms)
+    x.round.ends.1 ∙ land_kept kept x.keeps slots (posted x.round.ms)
 
 next_goes : {W : Type 0} (mach : schedule.Machine W) (view : W → Files) (Plain : W → Type 0) {P R : Type 0} (log : P → Option (List LogEvent)) (state : P → Option (schedule.State W)) (lists : R → Option Lists) (kept : Completion → Completion) (first now new : P) (from to : R) (room : ℕ) (todo todo' : List Taken) (started started' : ℕ) (slots slots' : List Slot) (offers : List Offer) (capacity idle idled : ℕ) (went : Bool) (x : Next mach view Plain log state lists kept first now new from to room todo todo' started started' slots slots' offers capacity idle idled (Ok went)) → went ≡ goes_on (took x.round.ms) (posted x.round.ms)
 next_goes mach view Plain log state lists kept first now new from to room todo todo' started started' slots slots' offers capacity idle idled went x =
-    x.round.ends.3 ∙ ap (λ b. nat_lt 0 (length (took x.round.ms)) || b) (any_kept kept x.keeps (posted x.round.ms))
+    x.round.enters.1 ∙ ap (λ b. nat_lt 0 (length (took x.round.ms)) || b) (any_kept kept x.keeps (posted x.round.ms))
 
 -- how many offers are untaken or have no outcome
 abbrev pub left_of : ℕ → List Slot → List Move → ℕ
@@ -329,7 +329,7 @@ fewer_left (suc m) any o o' n k k' h e le =
 
 pub next_left : {W : Type 0} (mach : schedule.Machine W) (view : W → Files) (Plain : W → Type 0) {P R : Type 0} (log : P → Option (List LogEvent)) (state : P → Option (schedule.State W)) (lists : R → Option Lists) (kept : Completion → Completion) (first now new : P) (from to : R) (room : ℕ) (todo todo' : List Taken) (started started' : ℕ) (slots slots' : List Slot) (offers : List Offer) (capacity idle idled : ℕ) (went : Bool) (x : Next mach view Plain log state lists kept first now new from to room todo todo' started started' slots slots' offers capacity idle idled (Ok went)) → left_of (length offers) slots' (x.run.ms ++ x.round.ms) + cond went 1 0 ≤ left_of (length offers) slots x.run.ms
 next_left mach view Plain log state lists kept first now new from to room todo todo' started started' slots slots' offers capacity idle idled went x =
-    let due : stranger_among started' slots (posted x.round.ms) ≡ None = sym (stranger_kept kept x.keeps started' slots (posted x.round.ms)) ∙ x.round.ends.1 in
+    let due : stranger_among started' slots (posted x.round.ms) ≡ None = sym (stranger_kept kept x.keeps started' slots (posted x.round.ms)) ∙ x.round.ends.0 in
     let landed : count_open slots' + cond (any_final (posted x.round.ms)) 1 0 ≤ count_open slots =
     subst (λ y. count_open y + cond (any_final (posted x.round.ms)) 1 0 ≤ count_open slots) (sym (next_slots mach view Plain log state lists kept first now new from to room todo todo' started started' slots slots' offers capacity idle idled went x)) (all_landed started' slots (posted x.round.ms) due) in
     let more : length (took (x.run.ms ++ x.round.ms)) ≡ length (took x.run.ms) + length (took x.round.ms) = ap length (x.laws.join.takes x.run.ms x.round.ms) ∙ length-append (took x.run.ms) (took x.round.ms) in
@@ -353,14 +353,14 @@ took_rest p rest ms e = ap (λ l. goes_on (took l) (posted l)) e
 next_idle : {W : Type 0} (mach : schedule.Machine W) (view : W → Files) (Plain : W → Type 0) {P R : Type 0} (log : P → Option (List LogEvent)) (state : P → Option (schedule.State W)) (lists : R → Option Lists) (kept : Completion → Completion) (first now new : P) (from to : R) (room : ℕ) (todo todo' : List Taken) (started started' : ℕ) (slots slots' : List Slot) (offers : List Offer) (capacity idle idled : ℕ) (went : Bool) (x : Next mach view Plain log state lists kept first now new from to room todo todo' started started' slots slots' offers capacity idle idled (Ok went)) → (q' : ℕ) → q' ≡ cond went 0 (idled + 1) → q' ≡ idle_turns 0 (log_of (x.run.ms ++ x.round.ms))
 next_idle mach view Plain log state lists kept first now new from to room todo todo' started started' slots slots' offers capacity idle idled went x =
     λ q' e.
-    let c = next_entered mach view Plain log state lists kept first now new from to room todo todo' started started' slots slots' offers capacity idle idled (Ok went) x x.round.ends.0 in
+    let c = next_entered mach view Plain log state lists kept first now new from to room todo todo' started started' slots slots' offers capacity idle idled (Ok went) x x.round.enters.0 in
     e ∙ ap (λ b. cond b 0 (idled + 1)) (next_goes mach view Plain log state lists kept first now new from to room todo todo' started started' slots slots' offers capacity idle idled went x ∙ took_rest c.p c.rest x.round.ms c.moves)
     ∙ sym (call_idle x.run.ms c.p c.rest idled c.one x.run.idled_is)
     ∙ ap (λ ms. idle_turns 0 (log_of (x.run.ms ++ ms))) (sym c.moves)
 
 next_turns : {W : Type 0} (mach : schedule.Machine W) (view : W → Files) (Plain : W → Type 0) {P R : Type 0} (log : P → Option (List LogEvent)) (state : P → Option (schedule.State W)) (lists : R → Option Lists) (kept : Completion → Completion) (first now new : P) (from to : R) (room : ℕ) (todo todo' : List Taken) (started started' : ℕ) (slots slots' : List Slot) (offers : List Offer) (capacity idle idled : ℕ) (went : Bool) (x : Next mach view Plain log state lists kept first now new from to room todo todo' started started' slots slots' offers capacity idle idled (Ok went)) → turns (x.run.ms ++ x.round.ms) ≡ turns x.run.ms + 1
 next_turns mach view Plain log state lists kept first now new from to room todo todo' started started' slots slots' offers capacity idle idled went x =
-    let c = next_entered mach view Plain log state lists kept first now new from to room todo todo' started started' slots slots' offers capacity idle idled (Ok went) x x.round.ends.0 in
+    let c = next_entered mach view Plain log state lists kept first now new from to room todo todo' started started' slots slots' offers capacity idle idled (Ok went) x x.round.enters.0 in
     let one : turns x.round.ms ≡ suc (turns c.rest) = ap turns c.moves in
     x.laws.join.turning x.run.ms x.round.ms ∙ omega (arith, one, c.one)
 
@@ -391,9 +391,9 @@ next_prompt : {W : Type 0} (mach : schedule.Machine W) (view : W → Files) (Pla
     → (idled' ≡ 0) × EachSettles false (x.run.ms ++ x.round.ms)
 next_prompt mach view Plain log state lists kept first now new from to room todo todo' started started' slots slots' offers capacity idle idled went x idled' e a told is_idle =
     let q = x.run.prompt a told is_idle in
-    let c = next_entered mach view Plain log state lists kept first now new from to room todo todo' started started' slots slots' offers capacity idle idled (Ok went) x x.round.ends.0 in
+    let c = next_entered mach view Plain log state lists kept first now new from to room todo todo' started started' slots slots' offers capacity idle idled (Ok went) x x.round.enters.0 in
     let b = served_some mach a x.run.ms (state now) (subst (λ o. schedule.IsServed mach o x.run.ms (state now)) told x.run.states) in
-    let w : IsTurnOf mach b.0 x.round.at x.round.ms = subst (λ o. IsWholeTurn mach o (Some x.round.at) x.round.ms) b.1 (on_true x.round.entered (IsWholeTurn mach (state now) (Some x.round.at) x.round.ms) x.round.ends.0 x.round.whole) in
+    let w : IsTurnOf mach b.0 x.round.at x.round.ms = subst (λ o. IsWholeTurn mach o (Some x.round.at) x.round.ms) b.1 (on_true x.round.entered (IsWholeTurn mach (state now) (Some x.round.at) x.round.ms) x.round.enters.0 x.round.whole) in
     let es = (turn mach w.ts (room_of x.round.at) b.0).ends in
     let posts : posted x.round.ms ≡ posts_of es = ap posted w.moves ∙ x.laws.turn_posts w.ts es in
     let at_room : room_of x.round.at ≡ x.run.l.completion_capacity - (length x.run.l.completions + 0) = ap room_of x.round.published ∙ ap (λ l. l.completion_capacity - (length l.completions + 0)) (same_lists mach view Plain log state lists kept first now new from to room todo todo' started started' slots slots' offers capacity idle idled (Ok went) x) in
@@ -447,7 +447,7 @@ running_next mach view Plain log state lists kept first now new from to room tod
           next_slots mach view Plain log state lists kept first now new from to room todo todo' started started' slots slots' offers capacity idle idled went x ∙ ap (λ y. land_all y (posted x.round.ms)) x.run.told_slots
           ∙ lands_all started' offers (posted x.run.ms) (posted x.round.ms) (next_posts mach view Plain log state lists kept first now new from to room todo todo' started started' slots slots' offers capacity idle idled went x)
           ∙ ap (slots_from 0 offers) (sym (x.laws.join.posts x.run.ms x.round.ms));
-      expected = next_strange mach view Plain log state lists kept first now new from to room todo todo' started started' slots slots' offers capacity idle idled (Ok went) x x.round.ends.0 ∙ x.round.ends.1;
+      expected = next_strange mach view Plain log state lists kept first now new from to room todo todo' started started' slots slots' offers capacity idle idled (Ok went) x x.round.enters.0 ∙ x.round.ends.0;
       idled_is = next_idle mach view Plain log state lists kept first now new from to room todo todo' started started' slots slots' offers capacity idle idled went x idled' e;
       started_is = omega (arith, counted, before, x.run.started_is, x.count);
       holds =
@@ -469,7 +469,7 @@ next_moves mach view Plain log state lists kept first now new from to room todo 
 -- a round that ends with a fault
 
 faulted_next : {W : Type 0} (mach : schedule.Machine W) (view : W → Files) (Plain : W → Type 0) {P R : Type 0} (log : P → Option (List LogEvent)) (state : P → Option (schedule.State W)) (lists : R → Option Lists) (kept : Completion → Completion) (first now new : P) (from to : R) (room : ℕ) (todo todo' : List Taken) (started started' : ℕ) (slots slots' : List Slot) (offers : List Offer) (capacity idle idled : ℕ) (e : RunFault) → (x : Next mach view Plain log state lists kept first now new from to room todo todo' started started' slots slots' offers capacity idle idled (Err e)) → IsGivenUp offers idle (log_of (x.run.ms ++ x.round.ms)) e
-faulted_next mach view Plain log state lists kept first now new from to room todo todo' started started' slots slots' offers capacity idle idled (faults.Stranger u) x = next_strange mach view Plain log state lists kept first now new from to room todo todo' started started' slots slots' offers capacity idle idled (Err (faults.Stranger u)) x x.round.ends.0 ∙ x.round.ends.1
+faulted_next mach view Plain log state lists kept first now new from to room todo todo' started started' slots slots' offers capacity idle idled (faults.Stranger u) x = next_strange mach view Plain log state lists kept first now new from to room todo todo' started started' slots slots' offers capacity idle idled (Err (faults.Stranger u)) x (x.round.enters refl) ∙ x.round.ends
 faulted_next mach view Plain log state lists kept first now new from to room todo todo' started started' slots slots' offers capacity idle idled faults.PartnerFault x = tt
 faulted_next mach view Plain log state lists kept first now new from to room todo todo' started started' slots slots' offers capacity idle idled faults.NoMemory x = tt
 faulted_next mach view Plain log state lists kept first now new from to room todo todo' started started' slots slots' offers capacity idle idled faults.BadSize x = absurd x.round.ends
