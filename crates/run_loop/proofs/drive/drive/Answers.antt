@@ -14,7 +14,8 @@ use Rattle.run_loop.specs.declared.slot.Slot.{Slot}
 use Rattle.run_loop.specs.Slots.{count_open}
 use Rattle.run_loop.specs.Driven.{Driven, IsGivenUp}
 use Rattle.run_loop.proofs.Posts.{slots-length}
-use Rattle.run_loop.proofs.Running.{Running, few_open, running_first, running_next, running_ran, next_faulted, next_smaller, prompt_end, stalled_end, whole_end, some_open, left_open, if_some, slots_stay, smaller, idled_below, next_of, started_more, all_started, next_moves}
+use Rattle.run_loop.proofs.UserLemmas.{user_started, user_slots}
+use Rattle.run_loop.proofs.Running.{Running, few_open, running_first, running_next, running_ran, next_faulted, next_smaller, prompt_end, stalled_end, whole_end, some_open, left_open, if_some, smaller, idled_below, next_of, started_more, next_moves}
 use Rattle.run_loop.proofs.Places.{advances_none, advances_by, places_then}
 use Rattle.run_loop.proofs.drive.drive.Goals as goal
 
@@ -104,8 +105,8 @@ rounds-preserved g c =
     let d = c.in_ok-went.ensures in
     let x = next_of _ _ _ _ _ _ _ _ _ _ _ _ _ _ _ _ _ _ _ c.args.todo.now _ _ _ _ c.model_laws.ensures s.0 d.round.0 g.R.Rings.keeps d.inside (some_open _ _ c.is_whole.ensures.1 c.rounds-test.true) s.1 in
     let y = running_next _ _ _ _ _ _ _ _ _ _ _ _ _ _ _ _ _ _ _ c.args.todo.now _ _ _ _ _ c.idle_after-idled.result x d.calm c.idle_after-idled.ensures in
-    let before = slots_stay _ _ _ _ _ _ _ _ _ _ _ _ _ c.args.todo.now _ _ _ s.0 in
-    let after = slots_stay _ _ _ _ _ _ _ _ _ _ _ _ _ c.args.todo.now _ _ _ y in (
+    let before = user_slots _ _ _ _ _ _ s.0.user in
+    let after = user_slots _ _ _ _ _ _ y.user in (
       y,
       idled_below c.in_ok-went.went _ _ _ c.idle_after-idled.ensures (omega (arith, s.1)) c.if-idled-idle.false,
       omega (arith, before, after, s.2, d.inside),
@@ -120,4 +121,4 @@ pub returns-clause-run : goal.returns-clause-run
 returns-clause-run g c =
     let s = c.rounds.invariant in
     let none = c.is_whole.ensures.0 c.rounds-test.false in
-    (running_ran _ _ _ _ _ _ _ _ _ _ _ _ _ c.args.todo.now _ _ _ s.0 (whole_end _ _ _ _ _ _ _ _ _ _ _ _ _ c.args.todo.now _ _ _ s.0 none), (none, s.0.told_slots, s.0.expected, (λ a told idle. prompt_end _ _ _ _ _ _ _ _ _ _ _ _ _ c.args.todo.now _ _ _ c.model_laws.ensures s.0 a told idle), (advances_by _ _ _ _ (all_started _ _ _ _ _ _ _ _ _ _ _ _ _ c.args.todo.now _ _ _ s.0 s.5.ahead none) s.7.0, s.7.1)))
+    (running_ran _ _ _ _ _ _ _ _ _ _ _ _ _ c.args.todo.now _ _ _ s.0 (whole_end _ _ _ _ _ _ _ _ _ _ _ _ _ c.args.todo.now _ _ _ s.0 none), (none, s.0.user.told_slots, s.0.expected, (λ a told idle. prompt_end _ _ _ _ _ _ _ _ _ _ _ _ _ c.args.todo.now _ _ _ c.model_laws.ensures s.0 a told idle), (advances_by _ _ _ _ (user_started _ _ _ _ _ _ s.0.user s.5.ahead none) s.7.0, s.7.1)))
