@@ -289,14 +289,18 @@ next_strange mach view Plain log state lists kept first now new from to room tod
 next_ran : {W : Type 0} (mach : schedule.Machine W) (view : W → Files) (Plain : W → Type 0) {P R : Type 0} (log : P → Option (List LogEvent)) (state : P → Option (schedule.State W)) (lists : R → Option Lists) (kept : Completion → Completion) (first now new : P) (from to : R) (room : ℕ) (todo todo' : List Taken) (started started' : ℕ) (slots slots' : List Slot) (offers : List Offer) (capacity idle idled : ℕ) (answer : Result Bool RunFault) (x : Next mach view Plain log state lists kept first now new from to room todo todo' started started' slots slots' offers capacity idle idled answer) → Driven mach log state first new offers capacity idle
 next_ran mach view Plain log state lists kept first now new from to room todo todo' started started' slots slots' offers capacity idle idled answer x =
     record {
-      moves = x.run.ms ++ x.round.ms;
-      ahead = x.round.after.published ++ todo';
-      logs = x.laws.join.logs (log first) (log now) (log new) x.run.ms x.round.ms x.run.logs x.round.logs;
-      states = x.laws.world.join (state first) (state now) (state new) x.run.ms x.round.ms x.run.states x.round.states;
-      entries = sym (append_assoc (took (x.run.ms ++ x.round.ms)) x.round.after.published todo') ∙ next_entries mach view Plain log state lists kept first now new from to room todo todo' started started' slots slots' offers capacity idle idled answer x;
-      busy = next_busy mach view Plain log state lists kept first now new from to room todo todo' started started' slots slots' offers capacity idle idled answer x;
-      within = next_within mach view Plain log state lists kept first now new from to room todo todo' started started' slots slots' offers capacity idle idled answer x;
-      few = let t = call_turns x.run.l.capacity (length offers) (length (took x.run.ms)) started' x.round.ms (next_called mach view Plain log state lists kept first now new from to room todo todo' started started' slots slots' offers capacity idle idled answer x) in subst (λ k. k ≤ idle * (2 * length offers)) (sym (x.laws.join.turning x.run.ms x.round.ms)) (few_last idle (2 * length offers) (turns x.run.ms) (count_open slots + (length offers - length (took x.run.ms))) idled (turns x.round.ms) x.run.few (omega (arith, x.unfinished)) x.waits t);
+      ran = record {
+        moves = x.run.ms ++ x.round.ms;
+        ahead = x.round.after.published ++ todo';
+        logs = x.laws.join.logs (log first) (log now) (log new) x.run.ms x.round.ms x.run.logs x.round.logs;
+        states = x.laws.world.join (state first) (state now) (state new) x.run.ms x.round.ms x.run.states x.round.states;
+        entries = sym (append_assoc (took (x.run.ms ++ x.round.ms)) x.round.after.published todo') ∙ next_entries mach view Plain log state lists kept first now new from to room todo todo' started started' slots slots' offers capacity idle idled answer x;
+        within = next_within mach view Plain log state lists kept first now new from to room todo todo' started started' slots slots' offers capacity idle idled answer x;
+      };
+      full = record {
+        busy = next_busy mach view Plain log state lists kept first now new from to room todo todo' started started' slots slots' offers capacity idle idled answer x;
+        few = let t = call_turns x.run.l.capacity (length offers) (length (took x.run.ms)) started' x.round.ms (next_called mach view Plain log state lists kept first now new from to room todo todo' started started' slots slots' offers capacity idle idled answer x) in subst (λ k. k ≤ idle * (2 * length offers)) (sym (x.laws.join.turning x.run.ms x.round.ms)) (few_last idle (2 * length offers) (turns x.run.ms) (count_open slots + (length offers - length (took x.run.ms))) idled (turns x.round.ms) x.run.few (omega (arith, x.unfinished)) x.waits t);
+      };
     }
 
 -- a round that ends well
@@ -473,7 +477,7 @@ faulted_next mach view Plain log state lists kept first now new from to room tod
 faulted_next mach view Plain log state lists kept first now new from to room todo todo' started started' slots slots' offers capacity idle idled (faults.BadJob n) x = absurd x.round.ends
 faulted_next mach view Plain log state lists kept first now new from to room todo todo' started started' slots slots' offers capacity idle idled faults.Stalled x = absurd x.round.ends
 
-pub next_faulted : {W : Type 0} (mach : schedule.Machine W) (view : W → Files) (Plain : W → Type 0) {P R : Type 0} (log : P → Option (List LogEvent)) (state : P → Option (schedule.State W)) (lists : R → Option Lists) (kept : Completion → Completion) (first now new : P) (from to : R) (room : ℕ) (todo todo' : List Taken) (started started' : ℕ) (slots slots' : List Slot) (offers : List Offer) (capacity idle idled : ℕ) (e : RunFault) → (x : Next mach view Plain log state lists kept first now new from to room todo todo' started started' slots slots' offers capacity idle idled (Err e)) → (r : Driven mach log state first new offers capacity idle) × IsGivenUp offers idle (log_of r.moves) e
+pub next_faulted : {W : Type 0} (mach : schedule.Machine W) (view : W → Files) (Plain : W → Type 0) {P R : Type 0} (log : P → Option (List LogEvent)) (state : P → Option (schedule.State W)) (lists : R → Option Lists) (kept : Completion → Completion) (first now new : P) (from to : R) (room : ℕ) (todo todo' : List Taken) (started started' : ℕ) (slots slots' : List Slot) (offers : List Offer) (capacity idle idled : ℕ) (e : RunFault) → (x : Next mach view Plain log state lists kept first now new from to room todo todo' started started' slots slots' offers capacity idle idled (Err e)) → (r : Driven mach log state first new offers capacity idle) × IsGivenUp offers idle (log_of r.ran.moves) e
 unfolding next_ran
 next_faulted mach view Plain log state lists kept first now new from to room todo todo' started started' slots slots' offers capacity idle idled e x = (next_ran mach view Plain log state lists kept first now new from to room todo todo' started started' slots slots' offers capacity idle idled (Err e) x, faulted_next mach view Plain log state lists kept first now new from to room todo todo' started started' slots slots' offers capacity idle idled e x)
 
@@ -487,14 +491,18 @@ untaken (Some l) todo = length l.published + todo
 abbrev pub running_ran : {W : Type 0} (mach : schedule.Machine W) (view : W → Files) (Plain : W → Type 0) {P R : Type 0} (log : P → Option (List LogEvent)) (state : P → Option (schedule.State W)) (lists : R → Option Lists) (first now : P) (ring : R) (room : ℕ) (todo : List Taken) (started : ℕ) (slots : List Slot) (offers : List Offer) (capacity idle idled : ℕ)
     → (x : Running mach view Plain log state lists first now ring room todo started slots offers capacity idle idled) → turns x.ms ≤ idle * (2 * length offers) → Driven mach log state first now offers capacity idle
 running_ran mach view Plain log state lists first now ring room todo started slots offers capacity idle idled x few = record {
-  moves = x.ms;
-  ahead = x.l.published ++ todo;
-  logs = x.logs;
-  states = x.states;
-  entries = sym (append_assoc (took x.ms) x.l.published todo) ∙ x.user.entries;
-  busy = x.busy;
-  within = x.within;
-  few = few;
+  ran = record {
+    moves = x.ms;
+    ahead = x.l.published ++ todo;
+    logs = x.logs;
+    states = x.states;
+    entries = sym (append_assoc (took x.ms) x.l.published todo) ∙ x.user.entries;
+    within = x.within;
+  };
+  full = record {
+    busy = x.busy;
+    few = few;
+  };
 }
 
 pub stalled_end : {W : Type 0} (mach : schedule.Machine W) (view : W → Files) (Plain : W → Type 0) {P R : Type 0} (log : P → Option (List LogEvent)) (state : P → Option (schedule.State W)) (lists : R → Option Lists) (first now : P) (ring : R) (room : ℕ) (todo : List Taken) (started : ℕ) (slots : List Slot) (offers : List Offer) (capacity idle idled : ℕ)

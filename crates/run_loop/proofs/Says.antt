@@ -31,13 +31,13 @@ use Rattle.run_loop.specs.declared.slot.Slot.{Slot}
 use Rattle.run_loop.specs.declared.slot.Slot.TheVariants.{Done}
 use Rattle.run_loop.specs.Driven.{Driven, IsGivenUp}
 use Rattle.run_loop.specs.declared.slot.Reply.{Reply}
-use Rattle.run_loop.specs.Entries.{offers_from, all_taken, reply_in, lends_in, lends_at, quiets_in, quiets_at, AllValid, AllInRange}
+use Rattle.run_loop.specs.Entries.{offers_from, all_taken, entries_from, reply_in, lends_in, lends_at, quiets_in, quiets_at, AllValid, AllInRange}
 use Rattle.run_loop.specs.Laws.{ModelLaws}
 use Rattle.run_loop.specs.Memory.{Explains, replayed_outcomes}
 use Rattle.ring_traits.specs.Lists.{Advances}
 use Rattle.run_loop.proofs.Places.{advances_by}
 use Rattle.run_loop.specs.Rounds.{PlacesGoOn, is_partner_fault, is_stall, is_stranger_fault}
-use Rattle.run_loop.specs.Runs.{Ran, RunSays, PlacesRanOn, count_posts, outcomes_from, IsAnswered, IsFaulted}
+use Rattle.run_loop.specs.Runs.{Ran, InFullTurns, RunSays, PlacesRanOn, count_posts, outcomes_from, IsAnswered, IsFaulted}
 use Rattle.run_loop.specs.Slots.{count_open, slots_from}
 use Rattle.run_loop.proofs.EntryLemmas.{offers_count}
 use Rattle.run_loop.proofs.Asks.{asks_all, six_all, numbered_all, own_all, replies_first, asks, asks_list}
@@ -47,23 +47,16 @@ use Rattle.run_loop.proofs.Posts.{done_jobs, tells_after, last_is_quiet}
 use Rattle.run_loop.proofs.Running.{nothing_told}
 use Rattle.run_loop.proofs.Quiets.{quiet_at, quiets_jobs, quiets_plain, valid_linked, loud_last, quiets_move_none, quiets_named, are_quiets}
 
--- the run by its jobs
-
-abbrev ran_of : {W : Type 0} (mach : schedule.Machine W) (view : W → Files) (Plain : W → Type 0) {P : Type 0} (log : P → Option (List LogEvent)) (state : P → Option (schedule.State W)) (old new : P) (jobs : List Job) (capacity idle : ℕ) → Driven mach log state old new (offers_from 0 jobs) capacity idle → Ran mach log state old new jobs capacity idle
-ran_of mach view Plain log state old new jobs capacity idle d = record {
-  moves = d.moves;
-  ahead = d.ahead;
-  logs = d.logs;
-  states = d.states;
-  entries = d.entries;
-  busy = subst (λ n. IsBusy capacity n 0 (journal_of (log_of d.moves))) (offers_count 0 jobs) d.busy;
-  within = d.within;
-  few = subst (λ n. turns d.moves ≤ idle * (2 * n)) (offers_count 0 jobs) d.few;
-}
+-- its turns by its jobs
+full_of : (jobs : List Job) (capacity idle : ℕ) (ms : List Move) → InFullTurns capacity (length (offers_from 0 jobs)) idle ms → InFullTurns capacity (length jobs) idle ms
+full_of jobs capacity idle ms full = subst (λ n. InFullTurns capacity n idle ms) (offers_count 0 jobs) full
 
 -- nothing was done
 pub not_driven : {W : Type 0} (mach : schedule.Machine W) (view : W → Files) (Plain : W → Type 0) {P : Type 0} (laws : ModelLaws mach view Plain) (log : P → Option (List LogEvent)) (state : P → Option (schedule.State W)) (p : P) (jobs : List Job) (capacity idle : ℕ) → Driven mach log state p p (offers_from 0 jobs) capacity idle
-not_driven mach view Plain laws log state p jobs capacity idle = record { moves = []; ahead = all_taken (offers_from 0 jobs); logs = laws.stay.logs (log p); states = laws.world.stay (state p); entries = refl; busy = tt; within = tt; few = omega arith }
+not_driven mach view Plain laws log state p jobs capacity idle = record {
+  ran = record { moves = []; ahead = all_taken (offers_from 0 jobs); logs = laws.stay.logs (log p); states = laws.world.stay (state p); entries = refl; within = tt };
+  full = record { busy = tt; few = omega arith };
+}
 
 faulted_of : (jobs : List Job) (idle : ℕ) (log : List LogEvent) (e : RunFault) → IsGivenUp (offers_from 0 jobs) idle log e → IsFaulted jobs idle log e
 faulted_of jobs idle log (faults.Stranger u) h = h
@@ -103,9 +96,9 @@ all_ended : (quiet : ℕ → Bool) (ts : List Taken) → AllByRecursion (λ t. (
 all_ended quiet [] h = tt
 all_ended quiet (t ∷ ts) h = ((λ q. sym h.0 ∙ q), all_ended quiet ts h.1)
 
-pub from_idle : {W : Type 0} (mach : schedule.Machine W) (view : W → Files) (Plain : W → Type 0) {P : Type 0} (laws : ModelLaws mach view Plain) (log : P → Option (List LogEvent)) (state : P → Option (schedule.State W)) (old new : P) (jobs : List Job) (capacity bound : ℕ) (d : Driven mach log state old new (offers_from 0 jobs) capacity bound) → AllValid jobs → AllInRange jobs → (a : schedule.State W) → state old ≡ Some a → IsPlainAndIdle Plain a
+pub from_idle : {W : Type 0} (mach : schedule.Machine W) (view : W → Files) (Plain : W → Type 0) {P : Type 0} (laws : ModelLaws mach view Plain) (log : P → Option (List LogEvent)) (state : P → Option (schedule.State W)) (old new : P) (jobs : List Job) (d : Ran mach log state old new (entries_from 0 jobs)) → AllValid jobs → AllInRange jobs → (a : schedule.State W) → state old ≡ Some a → IsPlainAndIdle Plain a
     → (b : schedule.State W) × (state new ≡ Some b) × FromIdle jobs (viewed view a) (viewed view b) d.moves × Plain b.world
-from_idle mach view Plain laws log state old new jobs capacity bound d valid range a told rests =
+from_idle mach view Plain laws log state old new jobs d valid range a told rests =
     let served = served_some mach a d.moves (state new) (subst (λ o. schedule.IsServed mach o d.moves (state new)) told d.states) in
     let b = served.0 in
     let same_jobs : map job_of (took d.moves ++ d.ahead) ≡ last_unlinked (model_jobs jobs) = ap (map job_of) d.entries ∙ asks_all 0 jobs valid range in
@@ -176,15 +169,16 @@ fault_explains view Plain jobs a b ms e f honest prompt = record {
 }
 
 pub says_fault : {W : Type 0} (mach : schedule.Machine W) (view : W → Files) (Plain : W → Type 0) {P : Type 0} (laws : ModelLaws mach view Plain) (log : P → Option (List LogEvent)) (state : P → Option (schedule.State W)) (old new : P) (jobs : List Job) (capacity bound : ℕ) (e : RunFault) → AllValid jobs → AllInRange jobs
-    → (d : Driven mach log state old new (offers_from 0 jobs) capacity bound) → IsGivenUp (offers_from 0 jobs) bound (log_of d.moves) e → IfSome (state old) (λ a. IsPlainAndIdle Plain a → is_stall e ≡ false)
+    → (d : Driven mach log state old new (offers_from 0 jobs) capacity bound) → IsGivenUp (offers_from 0 jobs) bound (log_of d.ran.moves) e → IfSome (state old) (λ a. IsPlainAndIdle Plain a → is_stall e ≡ false)
     → RunSays mach view Plain log state old new jobs capacity bound (Err e)
 says_fault mach view Plain laws log state old new jobs capacity bound e valid range d given stall = record {
-  ran = ran_of mach view Plain log state old new jobs capacity bound d;
+  ran = d.ran;
+  full = full_of jobs capacity bound d.ran.moves d.full;
   report = tt;
-  fault = faulted_of jobs bound (log_of d.moves) e given;
+  fault = faulted_of jobs bound (log_of d.ran.moves) e given;
   memory = λ a told rests.
-      let f = from_idle mach view Plain laws log state old new jobs capacity bound d valid range a told rests in
-      (f.0, f.1, fault_explains view Plain jobs a f.0 d.moves e f.2 (stranger_not e jobs bound (log_of d.moves) given f.2.honest) (some_told (state old) a (λ a. IsPlainAndIdle Plain a → is_stall e ≡ false) stall told rests));
+      let f = from_idle mach view Plain laws log state old new jobs d.ran valid range a told rests in
+      (f.0, f.1, fault_explains view Plain jobs a f.0 d.ran.moves e f.2 (stranger_not e jobs bound (log_of d.ran.moves) given f.2.honest) (some_told (state old) a (λ a. IsPlainAndIdle Plain a → is_stall e ≡ false) stall told rests));
 }
 
 -- a run that ends well
@@ -238,20 +232,21 @@ journal_gain (Some l) p ms start journal h s j =
     told ∙ ap (λ n. map event_of (drop n (l ++ log_of ms))) s ∙ ap (map event_of) (drop-append_seam l (log_of ms))
 
 pub says_report : {W : Type 0} (mach : schedule.Machine W) (view : W → Files) (Plain : W → Type 0) {P : Type 0} (laws : ModelLaws mach view Plain) (log : P → Option (List LogEvent)) (state : P → Option (schedule.State W)) (old new : P) (jobs : List Job) (capacity bound : ℕ) (report : Report) (start : ℕ) → AllValid jobs → AllInRange jobs
-    → (d : Driven mach log state old new (offers_from 0 jobs) capacity bound) → first_strange (lends_in (offers_from 0 jobs)) (quiets_in (offers_from 0 jobs)) nothing_seen (log_of d.moves) ≡ None
-    → count_open (slots_from 0 (offers_from 0 jobs) (posted d.moves)) ≡ 0 → map (λ o. Done o) report.outcomes.items ≡ slots_from 0 (offers_from 0 jobs) (posted d.moves)
+    → (d : Driven mach log state old new (offers_from 0 jobs) capacity bound) → first_strange (lends_in (offers_from 0 jobs)) (quiets_in (offers_from 0 jobs)) nothing_seen (log_of d.ran.moves) ≡ None
+    → count_open (slots_from 0 (offers_from 0 jobs) (posted d.ran.moves)) ≡ 0 → map (λ o. Done o) report.outcomes.items ≡ slots_from 0 (offers_from 0 jobs) (posted d.ran.moves)
     → IfSome (log old) (λ l. start ≡ length l) → IfSome (log new) (λ l. report.journal.items ≡ map event_of (drop start l))
-    → ((a : schedule.State W) → state old ≡ Some a → IsPlainAndIdle Plain a → turns d.moves ≤ length (offers_from 0 jobs))
+    → ((a : schedule.State W) → state old ≡ Some a → IsPlainAndIdle Plain a → turns d.ran.moves ≤ length (offers_from 0 jobs))
     → RunSays mach view Plain log state old new jobs capacity bound (Ok report)
 says_report mach view Plain laws log state old new jobs capacity bound report start valid range d honest none slots at journal few =
-    let answered = answered_by jobs d.moves report.outcomes.items valid none honest slots in
+    let answered = answered_by jobs d.ran.moves report.outcomes.items valid none honest slots in
     record {
-      ran = ran_of mach view Plain log state old new jobs capacity bound d;
-      report = record { answered = answered; journal = journal_gain (log old) (log new) d.moves start report.journal.items d.logs at journal };
+      ran = d.ran;
+      full = full_of jobs capacity bound d.ran.moves d.full;
+      report = record { answered = answered; journal = journal_gain (log old) (log new) d.ran.moves start report.journal.items d.ran.logs at journal };
       fault = tt;
       memory = λ a told rests.
-          let f = from_idle mach view Plain laws log state old new jobs capacity bound d valid range a told rests in
-          (f.0, f.1, whole_explains mach view Plain laws jobs a f.0 d.moves report valid f.2 f.3 none answered.outcomes (subst (λ n. turns d.moves ≤ n) (offers_count 0 jobs) (few a told rests)));
+          let f = from_idle mach view Plain laws log state old new jobs d.ran valid range a told rests in
+          (f.0, f.1, whole_explains mach view Plain laws jobs a f.0 d.ran.moves report valid f.2 f.3 none answered.outcomes (subst (λ n. turns d.ran.moves ≤ n) (offers_count 0 jobs) (few a told rests)));
     }
 
 pub not_stalled : {W : Type 0} (Plain : W → Type 0) (o : Option (schedule.State W)) → IfSome o (λ a. IsPlainAndIdle Plain a → is_stall faults.NoMemory ≡ false)
@@ -259,7 +254,7 @@ not_stalled Plain None = tt
 not_stalled Plain (Some a) = λ h. refl
 
 told_either : {W : Type 0} (mach : schedule.Machine W) (view : W → Files) (Plain : W → Type 0) {P : Type 0} (laws : ModelLaws mach view Plain) (log : P → Option (List LogEvent)) (state : P → Option (schedule.State W)) (old new : P) (jobs : List Job) (capacity bound : ℕ) (start : ℕ) (slots : List Slot) (r : Result Report RunFault) → AllValid jobs → AllInRange jobs
-    → (d : Driven mach log state old new (offers_from 0 jobs) capacity bound) → count_open slots ≡ 0 → slots ≡ slots_from 0 (offers_from 0 jobs) (posted d.moves) → first_strange (lends_in (offers_from 0 jobs)) (quiets_in (offers_from 0 jobs)) nothing_seen (log_of d.moves) ≡ None → ((a : schedule.State W) → state old ≡ Some a → IsPlainAndIdle Plain a → turns d.moves ≤ length (offers_from 0 jobs))
+    → (d : Driven mach log state old new (offers_from 0 jobs) capacity bound) → count_open slots ≡ 0 → slots ≡ slots_from 0 (offers_from 0 jobs) (posted d.ran.moves) → first_strange (lends_in (offers_from 0 jobs)) (quiets_in (offers_from 0 jobs)) nothing_seen (log_of d.ran.moves) ≡ None → ((a : schedule.State W) → state old ≡ Some a → IsPlainAndIdle Plain a → turns d.ran.moves ≤ length (offers_from 0 jobs))
     → IfOk r (λ report. map (λ o. Done o) report.outcomes.items ≡ slots) → IfOk r (λ report. IfSome (log new) (λ l. report.journal.items ≡ map event_of (drop start l))) → IfErr r (λ e. e ≡ faults.NoMemory) → IfSome (log old) (λ l. start ≡ length l)
     → RunSays mach view Plain log state old new jobs capacity bound r
 told_either mach view Plain laws log state old new jobs capacity bound start slots (Ok report) valid range d none told honest few outcomes journal err at =
@@ -269,13 +264,13 @@ told_either mach view Plain laws log state old new jobs capacity bound start slo
 
 -- what a run tells by its report, or by want of memory for it
 pub says_either : {W : Type 0} (mach : schedule.Machine W) (view : W → Files) (Plain : W → Type 0) {P : Type 0} (laws : ModelLaws mach view Plain) (log : P → Option (List LogEvent)) (state : P → Option (schedule.State W)) (old new : P) (jobs : List Job) (capacity bound : ℕ) (start : ℕ) (slots : List Slot) (offers : List Offer) (r : Result Report RunFault) → AllValid jobs → AllInRange jobs → offers ≡ offers_from 0 jobs
-    → ((d : Driven mach log state old new offers capacity bound) × ((count_open slots ≡ 0) × (slots ≡ slots_from 0 offers (posted d.moves)) × (first_strange (lends_in offers) (quiets_in offers) nothing_seen (log_of d.moves) ≡ None) × ((a : schedule.State W) → state old ≡ Some a → IsPlainAndIdle Plain a → turns d.moves ≤ length offers)))
+    → ((d : Driven mach log state old new offers capacity bound) × ((count_open slots ≡ 0) × (slots ≡ slots_from 0 offers (posted d.ran.moves)) × (first_strange (lends_in offers) (quiets_in offers) nothing_seen (log_of d.ran.moves) ≡ None) × ((a : schedule.State W) → state old ≡ Some a → IsPlainAndIdle Plain a → turns d.ran.moves ≤ length offers)))
     → IfOk r (λ report. map (λ o. Done o) report.outcomes.items ≡ slots) → IfOk r (λ report. IfSome (log new) (λ l. report.journal.items ≡ map event_of (drop start l))) → IfErr r (λ e. e ≡ faults.NoMemory)
     → IfSome (log old) (λ l. start ≡ length l)
     → RunSays mach view Plain log state old new jobs capacity bound r
 says_either {W = W} mach view Plain laws log state old new jobs capacity bound start slots offers r valid range same run outcomes journal err at =
-    let whole : (d : Driven mach log state old new (offers_from 0 jobs) capacity bound) × ((count_open slots ≡ 0) × (slots ≡ slots_from 0 (offers_from 0 jobs) (posted d.moves)) × (first_strange (lends_in (offers_from 0 jobs)) (quiets_in (offers_from 0 jobs)) nothing_seen (log_of d.moves) ≡ None) × ((a : schedule.State W) → state old ≡ Some a → IsPlainAndIdle Plain a → turns d.moves ≤ length (offers_from 0 jobs))) =
-    subst (λ o. (d : Driven mach log state old new o capacity bound) × ((count_open slots ≡ 0) × (slots ≡ slots_from 0 o (posted d.moves)) × (first_strange (lends_in o) (quiets_in o) nothing_seen (log_of d.moves) ≡ None) × ((a : schedule.State W) → state old ≡ Some a → IsPlainAndIdle Plain a → turns d.moves ≤ length o))) same run in
+    let whole : (d : Driven mach log state old new (offers_from 0 jobs) capacity bound) × ((count_open slots ≡ 0) × (slots ≡ slots_from 0 (offers_from 0 jobs) (posted d.ran.moves)) × (first_strange (lends_in (offers_from 0 jobs)) (quiets_in (offers_from 0 jobs)) nothing_seen (log_of d.ran.moves) ≡ None) × ((a : schedule.State W) → state old ≡ Some a → IsPlainAndIdle Plain a → turns d.ran.moves ≤ length (offers_from 0 jobs))) =
+    subst (λ o. (d : Driven mach log state old new o capacity bound) × ((count_open slots ≡ 0) × (slots ≡ slots_from 0 o (posted d.ran.moves)) × (first_strange (lends_in o) (quiets_in o) nothing_seen (log_of d.ran.moves) ≡ None) × ((a : schedule.State W) → state old ≡ Some a → IsPlainAndIdle Plain a → turns d.ran.moves ≤ length o))) same run in
     told_either mach view Plain laws log state old new jobs capacity bound start slots r valid range whole.0 whole.1.0 whole.1.1 whole.1.2 whole.1.3 outcomes journal err at
 
 -- the log's length is where its gain begins

@@ -7,6 +7,6 @@ pub mod Flights
 pub mod Steps
 pub mod Rounds
 pub mod UserRounds
-pub mod Driven
 pub mod Memory
 pub mod Runs
+pub mod Driven
