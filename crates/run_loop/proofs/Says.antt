@@ -33,11 +33,11 @@ use Rattle.run_loop.specs.Driven.{Driven, IsGivenUp}
 use Rattle.run_loop.specs.declared.slot.Reply.{Reply}
 use Rattle.run_loop.specs.Entries.{offers_from, all_taken, entries_from, reply_in, lends_in, lends_at, quiets_in, quiets_at, AllValid, AllInRange}
 use Rattle.run_loop.specs.Laws.{ModelLaws}
-use Rattle.run_loop.specs.Memory.{Explains, replayed_outcomes}
+use Rattle.run_loop.specs.Memory.{ExplainsWithin, replayed_outcomes}
 use Rattle.ring_traits.specs.Lists.{Advances}
 use Rattle.run_loop.proofs.Places.{advances_by}
 use Rattle.run_loop.specs.Rounds.{PlacesGoOn, is_partner_fault, is_stall, is_stranger_fault}
-use Rattle.run_loop.specs.Runs.{Ran, InFullTurns, RunSays, PlacesRanOn, count_posts, outcomes_from, IsAnswered, IsFaulted}
+use Rattle.run_loop.specs.Runs.{Ran, InFullTurns, RunSays, PlacesRanOn, count_posts, outcomes_from, IsAnswered, IsFaulted, IsReported}
 use Rattle.run_loop.specs.Slots.{count_open, slots_from}
 use Rattle.run_loop.proofs.EntryLemmas.{offers_count}
 use Rattle.run_loop.proofs.Asks.{asks_all, six_all, numbered_all, own_all, replies_first, asks, asks_list}
@@ -158,8 +158,8 @@ stranger_not (faults.BadJob n) jobs bound log g h = refl
 some_told : {A : Type 0} (o : Option A) (a : A) (P : A → Type 0) → IfSome o P → o ≡ Some a → P a
 some_told o a P h e = subst (λ x. IfSome x P) e h
 
-fault_explains : {W : Type 0} (view : W → Files) (Plain : W → Type 0) (jobs : List Job) (a b : schedule.State W) (ms : List Move) (e : RunFault) → FromIdle jobs (viewed view a) (viewed view b) ms → is_stranger_fault e ≡ false → is_stall e ≡ false → Explains view Plain (model_jobs jobs) a ms b (Err e)
-fault_explains view Plain jobs a b ms e f honest prompt = record {
+pub fault_explains : {W : Type 0} (view : W → Files) (Plain : W → Type 0) (bound : ℕ) (jobs : List Job) (a b : schedule.State W) (ms : List Move) (e : RunFault) → FromIdle jobs (viewed view a) (viewed view b) ms → is_stranger_fault e ≡ false → is_stall e ≡ false → ExplainsWithin view Plain bound (model_jobs jobs) a ms b (Err e)
+fault_explains view Plain bound jobs a b ms e f honest prompt = record {
   end = f.explained.state;
   replays = f.explained.replays;
   chosen = f.explained.chosen;
@@ -178,7 +178,7 @@ says_fault mach view Plain laws log state old new jobs capacity bound e valid ra
   fault = faulted_of jobs bound (log_of d.ran.moves) e given;
   memory = λ a told rests.
       let f = from_idle mach view Plain laws log state old new jobs d.ran valid range a told rests in
-      (f.0, f.1, fault_explains view Plain jobs a f.0 d.ran.moves e f.2 (stranger_not e jobs bound (log_of d.ran.moves) given f.2.honest) (some_told (state old) a (λ a. IsPlainAndIdle Plain a → is_stall e ≡ false) stall told rests));
+      (f.0, f.1, fault_explains view Plain (length (model_jobs jobs)) jobs a f.0 d.ran.moves e f.2 (stranger_not e jobs bound (log_of d.ran.moves) given f.2.honest) (some_told (state old) a (λ a. IsPlainAndIdle Plain a → is_stall e ≡ false) stall told rests));
 }
 
 -- a run that ends well
@@ -203,9 +203,9 @@ answered_by jobs ms os valid none honest slots = record {
   outcomes = outcomes_of_slots jobs ms os slots;
 }
 
-whole_explains : {W : Type 0} (mach : schedule.Machine W) (view : W → Files) (Plain : W → Type 0) (laws : ModelLaws mach view Plain) (jobs : List Job) (a b : schedule.State W) (ms : List Move) (report : Report) → AllValid jobs → FromIdle jobs (viewed view a) (viewed view b) ms → Plain b.world → count_open (slots_from 0 (offers_from 0 jobs) (posted ms)) ≡ 0 → map (λ o. Some o) report.outcomes.items ≡ outcomes_from 0 jobs (log_of ms) → turns ms ≤ length jobs
-    → Explains view Plain (model_jobs jobs) a ms b (Ok report)
-whole_explains mach view Plain laws jobs a b ms report valid f plain none answers few =
+pub whole_explains : {W : Type 0} (mach : schedule.Machine W) (view : W → Files) (Plain : W → Type 0) (laws : ModelLaws mach view Plain) (bound : ℕ) (jobs : List Job) (a b : schedule.State W) (ms : List Move) (report : Report) → AllValid jobs → FromIdle jobs (viewed view a) (viewed view b) ms → Plain b.world → count_open (slots_from 0 (offers_from 0 jobs) (posted ms)) ≡ 0 → map (λ o. Some o) report.outcomes.items ≡ outcomes_from 0 jobs (log_of ms) → turns ms ≤ bound
+    → ExplainsWithin view Plain bound (model_jobs jobs) a ms b (Ok report)
+whole_explains mach view Plain laws bound jobs a b ms report valid f plain none answers few =
     let results = whole_results jobs (viewed view a) (viewed view b) ms f in
     let whole = f.heard (all_heard jobs ms valid none) in
     let set : AllByRecursion IsSome (results_from 0 (length jobs) (posted ms) (quieted ms)) = subst (AllByRecursion IsSome) results (recursion_from_All IsSome (table f.explained.state) (laws.set f.explained.state whole)) in
@@ -220,7 +220,7 @@ whole_explains mach view Plain laws jobs a b ms report valid f plain none answer
         whole = whole;
         outcomes = answers ∙ sym (told_outcomes (replies_at jobs) (quiet_at (quiets_at jobs)) 0 jobs ms (replies_first jobs) quiets (quiets_move_none jobs valid) last f.told f.loud f.quiets set) ∙ ap (replayed_outcomes (model_jobs jobs)) (sym results);
         idle = let r = f.restful whole in record { pending = r.pending; tail = r.tail; plain = plain };
-        few = subst (λ n. turns ms ≤ n) (sym (length-map jobs model_job)) few;
+        few = few;
       };
       fault = tt;
     }
@@ -231,6 +231,15 @@ journal_gain (Some l) p ms start journal h s j =
     let told : journal ≡ map event_of (drop start (l ++ log_of ms)) = subst (λ x. IfSome x (λ l. journal ≡ map event_of (drop start l))) h j in
     told ∙ ap (λ n. map event_of (drop n (l ++ log_of ms))) s ∙ ap (map event_of) (drop-append_seam l (log_of ms))
 
+-- the report of a partner's part of a run
+pub reported : {W : Type 0} (mach : schedule.Machine W) {P : Type 0} (log : P → Option (List LogEvent)) (state : P → Option (schedule.State W)) (old new : P) (jobs : List Job) (report : Report) (start : ℕ) → AllValid jobs → (d : Ran mach log state old new (entries_from 0 jobs))
+    → first_strange (lends_at jobs) (quiets_at jobs) nothing_seen (log_of d.moves) ≡ None → count_open (slots_from 0 (offers_from 0 jobs) (posted d.moves)) ≡ 0 → map (λ o. Done o) report.outcomes.items ≡ slots_from 0 (offers_from 0 jobs) (posted d.moves)
+    → IfSome (log old) (λ l. start ≡ length l) → IfSome (log new) (λ l. report.journal.items ≡ map event_of (drop start l)) → IsReported log old jobs d.moves report
+reported mach log state old new jobs report start valid d honest none slots at journal = record {
+  answered = answered_by jobs d.moves report.outcomes.items valid none honest slots;
+  journal = journal_gain (log old) (log new) d.moves start report.journal.items d.logs at journal;
+}
+
 pub says_report : {W : Type 0} (mach : schedule.Machine W) (view : W → Files) (Plain : W → Type 0) {P : Type 0} (laws : ModelLaws mach view Plain) (log : P → Option (List LogEvent)) (state : P → Option (schedule.State W)) (old new : P) (jobs : List Job) (capacity bound : ℕ) (report : Report) (start : ℕ) → AllValid jobs → AllInRange jobs
     → (d : Driven mach log state old new (offers_from 0 jobs) capacity bound) → first_strange (lends_in (offers_from 0 jobs)) (quiets_in (offers_from 0 jobs)) nothing_seen (log_of d.ran.moves) ≡ None
     → count_open (slots_from 0 (offers_from 0 jobs) (posted d.ran.moves)) ≡ 0 → map (λ o. Done o) report.outcomes.items ≡ slots_from 0 (offers_from 0 jobs) (posted d.ran.moves)
@@ -238,15 +247,15 @@ pub says_report : {W : Type 0} (mach : schedule.Machine W) (view : W → Files) 
     → ((a : schedule.State W) → state old ≡ Some a → IsPlainAndIdle Plain a → turns d.ran.moves ≤ length (offers_from 0 jobs))
     → RunSays mach view Plain log state old new jobs capacity bound (Ok report)
 says_report mach view Plain laws log state old new jobs capacity bound report start valid range d honest none slots at journal few =
-    let answered = answered_by jobs d.ran.moves report.outcomes.items valid none honest slots in
+    let told = reported mach log state old new jobs report start valid d.ran honest none slots at journal in
     record {
       ran = d.ran;
       full = full_of jobs capacity bound d.ran.moves d.full;
-      report = record { answered = answered; journal = journal_gain (log old) (log new) d.ran.moves start report.journal.items d.ran.logs at journal };
+      report = told;
       fault = tt;
-      memory = λ a told rests.
-          let f = from_idle mach view Plain laws log state old new jobs d.ran valid range a told rests in
-          (f.0, f.1, whole_explains mach view Plain laws jobs a f.0 d.ran.moves report valid f.2 f.3 none answered.outcomes (subst (λ n. turns d.ran.moves ≤ n) (offers_count 0 jobs) (few a told rests)));
+      memory = λ a is rests.
+          let f = from_idle mach view Plain laws log state old new jobs d.ran valid range a is rests in
+          (f.0, f.1, whole_explains mach view Plain laws (length (model_jobs jobs)) jobs a f.0 d.ran.moves report valid f.2 f.3 none told.answered.outcomes (subst (λ n. turns d.ran.moves ≤ n) (offers_count 0 jobs ∙ sym (length-map jobs model_job)) (few a is rests)));
     }
 
 pub not_stalled : {W : Type 0} (Plain : W → Type 0) (o : Option (schedule.State W)) → IfSome o (λ a. IsPlainAndIdle Plain a → is_stall faults.NoMemory ≡ false)
