@@ -1,19 +1,25 @@
 -- The rounds of a run by what the user offered and reaped, one after another.
-use Rattle.std.proofs.Common.{◌≡◌, ℕ, ◌+◌, ◌<◌, ◌≤◌, Bool, true, false, ◌||◌, not, cond, nat_lt, Ok, Err, List, [], ◌∷◌, ◌++◌, length, slice_get, Some, None, refl, ap, sym, subst, ◌∙◌, append_assoc, append-nil, length-append, arith}
+use Rattle.std.proofs.Common.{◌≡◌, ℕ, ◌+◌, ◌<◌, ◌≤◌, zero, suc, Bool, true, false, ◌||◌, not, cond, nat_lt, Ok, Err, List, [], ◌∷◌, ◌++◌, length, map, slice_get, Some, None, refl, ap, sym, subst, ◌∙◌, append_assoc, append-nil, length-append, arith}
 use Rattle.std.proofs.lemmas.Bool.Decides.{nat_tests}
 use Rattle.std.proofs.lemmas.List.{length-map}
 use Rattle.uring_base.specs.declared.events.Taken.{Taken}
 use Rattle.uring_base.specs.declared.events.Completion.{Completion}
-use Rattle.uring_model.specs.declared.jobs.RunFault.TheVariants.{Stranger}
+use Rattle.uring_model.specs.declared.jobs.RunFault.{RunFault}
+use Rattle.uring_model.specs.declared.jobs.RunFault.TheVariants as faults
+use Rattle.uring_model.specs.Moves.{Posted, posted, log_of}
+use Rattle.uring_model.specs.Progress.{turns}
+use Rattle.uring_model.specs.Strange.{nothing_seen, all_seen, is_answered, ended_in, first_strange}
 use Rattle.ring_traits.specs.Lists.{small}
 use Rattle.run_loop.specs.declared.entries.Offer.{Offer}
 use Rattle.run_loop.specs.declared.slot.Slot.{Slot}
-use Rattle.run_loop.specs.Entries.{all_taken}
+use Rattle.run_loop.specs.declared.slot.Slot.TheVariants.{Open, Done}
+use Rattle.run_loop.specs.Entries.{all_taken, lends_in, quiets_in}
 use Rattle.run_loop.specs.Flights.{AreAhead}
+use Rattle.run_loop.specs.Rounds.{is_stranger_fault}
 use Rattle.run_loop.specs.Slots.{count_open, slots_from, is_strange_at, is_unexpected, land_one, land_all, stranger_among}
 use Rattle.run_loop.specs.Told.{unposted}
 use Rattle.run_loop.specs.UserRounds.{UserRun, UserRound, UserRounds, EndsAtStranger}
-use Rattle.run_loop.proofs.Posts.{passes, lands_all, slots-length}
+use Rattle.run_loop.proofs.Posts.{Tells, last_is_quiet, tells_after, done_jobs, same_strangers, passes, lands_all, slots-length}
 use Rattle.run_loop.proofs.SlotLemmas.{count_of_done}
 
 pub entries-length : (offers : List Offer) → length (all_taken offers) ≡ length offers
@@ -50,6 +56,12 @@ stranger_behind n slots [] ds e = refl
 stranger_behind n slots (c ∷ cs) ds e =
     let p = passes (is_unexpected n slots c) c.user_data (stranger_among n (land_one slots c) cs) e in
     ap (λ b. cond b (Some c.user_data) (stranger_among n (land_one slots c) (cs ++ ds))) p.0 ∙ stranger_behind n (land_one slots c) cs ds p.1
+
+none_strange_first : (n : ℕ) (slots : List Slot) (cs ds : List Completion) → stranger_among n slots (cs ++ ds) ≡ None → stranger_among n slots cs ≡ None
+none_strange_first n slots [] ds e = refl
+none_strange_first n slots (c ∷ cs) ds e =
+    let p = passes (is_unexpected n slots c) c.user_data (stranger_among n (land_one slots c) (cs ++ ds)) e in
+    ap (λ b. cond b (Some c.user_data) (stranger_among n (land_one slots c) cs)) p.0 ∙ none_strange_first n (land_one slots c) cs ds p.1
 
 pub user_entries : (offers : List Offer) (offered ts todo todo' : List Taken) → offered ++ todo ≡ all_taken offers → todo ≡ ts ++ todo' → (offered ++ ts) ++ todo' ≡ all_taken offers
 user_entries offers offered ts todo todo' e split = append_assoc offered ts todo' ∙ ap (λ l. offered ++ l) (sym split) ∙ e
@@ -92,6 +104,49 @@ user_started offers offered todo reaped started slots x ahead none =
 pub user_slots : (offers : List Offer) (offered todo : List Taken) (reaped : List Completion) (started : ℕ) (slots : List Slot) → UserRun offers offered todo reaped started slots → length slots ≡ length offers
 user_slots offers offered todo reaped started slots x = ap length x.told_slots ∙ slots-length 0 offers reaped
 
+-- what the completions tell where no slot is open
+
+no_turns : (cs : List Completion) → turns (map Posted cs) ≡ 0
+no_turns [] = refl
+no_turns (c ∷ cs) = no_turns cs
+
+all_posted : (cs : List Completion) → posted (map Posted cs) ≡ cs
+all_posted [] = refl
+all_posted (c ∷ cs) = ap (λ l. c ∷ l) (all_posted cs)
+
+-- each job is answered by them
+pub user_answered : (offers : List Offer) (reaped : List Completion) → last_is_quiet (quiets_in offers) ≡ false → count_open (slots_from 0 offers reaped) ≡ 0 → (j : ℕ) → j < length offers → is_answered (quiets_in offers) (ended_in (log_of (map Posted reaped))) j ≡ true
+user_answered offers reaped loud none j lt =
+    done_jobs offers reaped (ended_in (log_of (map Posted reaped))) (subst (λ cs. Tells (all_seen nothing_seen (log_of (map Posted reaped))) cs) (all_posted reaped) (tells_after nothing_seen [] (map Posted reaped) (λ j. refl))) loud none j lt
+
+-- and any further one would be strange
+
+all_done : (slots : List Slot) (c : Completion) (k : ℕ) → count_open slots ≡ 0 → is_strange_at (slice_get slots k) c ≡ true
+all_done [] c k none = refl
+all_done (Open reply quiet ∷ slots) c k none = absurd (omega arith)
+all_done (Done o ∷ slots) c zero none = refl
+all_done (Done o ∷ slots) c (suc k) none = all_done slots c k none
+
+none_due : (n : ℕ) (slots : List Slot) (cs : List Completion) → count_open slots ≡ 0 → stranger_among n slots cs ≡ None → cs ≡ []
+none_due n slots [] none e = refl
+none_due n slots (c ∷ cs) none e = absurd (not_both (not (nat_lt c.user_data n)) (is_strange_at (slice_get slots c.user_data) c) (all_done slots c c.user_data none) (passes (is_unexpected n slots c) c.user_data (stranger_among n (land_one slots c) cs) e).0)
+  where
+    not_both : (a b : Bool) → b ≡ true → (a || b) ≡ false → ⊥
+    not_both true b e f = cc
+    not_both false b e f = cc
+
+pub none_behind : (n : ℕ) (offers : List Offer) (cs ds : List Completion) → stranger_among n (slots_from 0 offers []) (cs ++ ds) ≡ None → count_open (slots_from 0 offers cs) ≡ 0 → ds ≡ []
+none_behind n offers cs ds due none =
+    let first = none_strange_first n (slots_from 0 offers []) cs ds due in
+    none_due n (slots_from 0 offers cs) ds none (ap (λ s. stranger_among n s ds) (sym (lands_all n offers [] cs first)) ∙ sym (stranger_behind n (slots_from 0 offers []) cs ds first) ∙ due)
+
+-- the strangers among them are those of their log, to a user that had started so many jobs
+pub strangers_told : (offers : List Offer) (taken started : ℕ) (cs : List Completion) → last_is_quiet (quiets_in offers) ≡ false → started ≤ length offers
+    → first_strange (lends_in offers) (quiets_in offers) (record { taken = taken; started = started; ended = [] }) (log_of (map Posted cs)) ≡ stranger_among started (slots_from 0 offers []) cs
+strangers_told offers taken started cs loud inside =
+    same_strangers offers [] (record { taken = taken; started = started; ended = [] }) (map Posted cs) (no_turns cs) (λ j. refl) loud inside
+    ∙ ap (stranger_among started (slots_from 0 offers [])) (all_posted cs)
+
 -- what a user does in two steps is one step
 
 abbrev pub Joins : {R : Type 0} → (R → List Taken → List Completion → R → Type 0) → Type 0
@@ -116,14 +171,23 @@ module _ {R : Type 0} (used : R → List Taken → List Completion → R → Typ
       run = user_next offers x.offered r.ts todo todo' x.reaped r.cs started started' slots slots' x.run r.offered r.starts r.ends.0 r.ends.1;
     }
 
-    pub rounds_end : (u : ℕ) → UserRound used room waiting from to todo todo' started started' slots slots' (Err (Stranger u)) → EndsAtStranger used first to offers todo' u
-    rounds_end u r = record {
+    at_stranger : (u : ℕ) → UserRound used room waiting from to todo todo' started started' slots slots' (Err (faults.Stranger u)) → EndsAtStranger used first to offers todo' u
+    at_stranger u r = record {
       offered = x.offered ++ r.ts;
       reaped = x.reaped ++ r.cs;
       uses = joins first from to x.offered r.ts x.reaped r.cs x.uses r.uses;
       entries = user_entries offers x.offered r.ts todo todo' x.run.entries r.offered;
       strange = user_stranger offers x.offered r.ts todo todo' x.reaped r.cs started started' slots u x.run r.starts r.ends;
     }
+
+    -- and one that ended at a stranger
+    pub rounds_end : (e : RunFault) → is_stranger_fault e ≡ true → UserRound used room waiting from to todo todo' started started' slots slots' (Err e) → (u : ℕ) × (e ≡ faults.Stranger u) × EndsAtStranger used first to offers todo' u
+    rounds_end (faults.Stranger u) h r = (u, refl, at_stranger u r)
+    rounds_end faults.BadSize h r = cc
+    rounds_end (faults.BadJob n) h r = cc
+    rounds_end faults.Stalled h r = cc
+    rounds_end faults.PartnerFault h r = cc
+    rounds_end faults.NoMemory h r = cc
 
 -- before the first round
 pub rounds_first : {R : Type 0} (used : R → List Taken → List Completion → R → Type 0) → ((a : R) → used a [] [] a) → (first : R) (offers : List Offer) (started : ℕ) (slots : List Slot) → started ≡ 0 → slots ≡ slots_from 0 offers [] → UserRounds used first first offers (all_taken offers) started slots
