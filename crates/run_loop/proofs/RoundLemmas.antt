@@ -15,7 +15,6 @@ use Rattle.partner_traits.specs.Calls.{IsCall, IsFullTurn, IsWholeTurn}
 use Rattle.uring_submit.specs.declared.error.SubmitError.{SubmitError}
 use Rattle.uring_submit.specs.declared.error.SubmitError.TheVariants as submit
 use Rattle.rent_engine.specs.declared.fault.EngineFault.{EngineFault}
-use Rattle.rent_engine.specs.declared.fault.EngineFault.TheVariants as faults
 use Rattle.rent_engine.specs.declared.ops.TurnReport.{TurnReport}
 use Rattle.rent_table.specs.Ops.{Ops}
 use Rattle.rent_table.specs.Steps.{KeptSteps}

@@ -24,7 +24,6 @@ use Rattle.ring_traits.specs.Lists.{Lists, IsKept, HasRoom, all_published, free_
 use Rattle.run_loop.proofs.Prompt.{six_front, six_back, took_turn, served_some, AllFinal, turn_final, final_any, stands, turn_pays, same_turn}
 use Rattle.run_loop.proofs.Asks.{six_all}
 use Rattle.run_loop.proofs.EntryLemmas.{offers_count}
-use Rattle.run_loop.proofs.SlotLemmas.{count_of_done}
 use Rattle.run_loop.proofs.Quiets.{loud_last}
 use Rattle.std.specs.Bool.{OnTrue}
 use Rattle.partner_traits.specs.Calls.{IsCall, IsTurn, IsTurnOf, IsWholeTurn}
@@ -32,8 +31,7 @@ use Rattle.run_loop.specs.declared.entries.Offer.{Offer}
 use Rattle.run_loop.specs.declared.slot.Slot.{Slot}
 use Rattle.run_loop.specs.Entries.{all_taken, lends_in, quiets_in, offers_from, AllValid, AllInRange}
 use Rattle.run_loop.specs.Laws.{ModelLaws}
-use Rattle.run_loop.specs.Told.{idle_turns, unposted}
-use Rattle.run_loop.specs.Flights.{AreAhead}
+use Rattle.run_loop.specs.Told.{idle_turns}
 use Rattle.run_loop.specs.Slots.{slots_from, count_open, land_all, stranger_among, any_final}
 use Rattle.run_loop.specs.Rounds.{pushed_more, IsCalm, goes_on, Round}
 use Rattle.run_loop.specs.Driven.{Driven, IsOpenJob, IsGivenUp}
