@@ -11,6 +11,7 @@ pub mod Places
 pub mod RoundLemmas
 pub mod Asks
 pub mod Posts
+pub mod UserLemmas
 pub mod Quiets
 pub mod Prompt
 pub mod Running

@@ -449,3 +449,14 @@ land_kept kept k slots (c ∷ cs) = ap (λ x. land_all (land_one slots x) (map k
 pub any_kept : (kept : Completion → Completion) → ((c : Completion) → IsKept c (kept c)) → (cs : List Completion) → any_final (map kept cs) ≡ any_final cs
 any_kept kept k [] = refl
 any_kept kept k (c ∷ cs) = λ i. is_final (k c i).flags || any_kept kept k cs i
+
+final_kept : (kept : Completion → Completion) → ((c : Completion) → IsKept c (kept c)) → (j : ℕ) (cs : List Completion) → final_of j (map kept cs) ≡ final_of j cs
+final_kept kept k j [] = refl
+final_kept kept k j (c ∷ cs) = λ i. cond (is_final (k c i).flags && nat_eq (k c i).user_data j) (Some (record { result = (k c i).result; loan = (k c i).loan })) (final_kept kept k j cs i)
+
+own_kept : (kept : Completion → Completion) → ((c : Completion) → IsKept c (kept c)) → (n : ℕ) (offers : List Offer) (cs : List Completion) → own_slots n offers (map kept cs) ≡ own_slots n offers cs
+own_kept kept k n [] cs = refl
+own_kept kept k n (offer ∷ offers) cs = λ i. own_slot offer (final_kept kept k n cs i) ∷ own_kept kept k (n + 1) offers cs i
+
+pub slots_kept : (kept : Completion → Completion) → ((c : Completion) → IsKept c (kept c)) → (n : ℕ) (offers : List Offer) (cs : List Completion) → slots_from n offers (map kept cs) ≡ slots_from n offers cs
+slots_kept kept k n offers cs = ap all_closed (own_kept kept k n offers cs)

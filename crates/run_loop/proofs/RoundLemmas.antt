@@ -1,14 +1,10 @@
 -- What a round makes of the lists of its ring, and of its jobs.
-use Rattle.std.proofs.Common.{◌≡◌, ℕ, ◌⊎◌, inl, inr, Bool, true, false, ◌||◌, cond, min, nat_lt, Result, Ok, Err, is_ok, IfOk, OnOk, ◌+◌, List, [], ◌∷◌, ◌++◌, length, map, count_by, Option, Some, None, IfSome, refl, ap, sym, subst, ◌∙◌, append-nil, length-append, arith}
+use Rattle.std.proofs.Common.{◌≡◌, ℕ, ◌⊎◌, inl, inr, Bool, true, false, ◌||◌, nat_lt, Result, Ok, Err, is_ok, IfOk, OnOk, ◌+◌, List, [], ◌++◌, length, map, Option, Some, None, IfSome, refl, ap, sym, subst, ◌∙◌, append-nil, length-append, arith}
 use Rattle.std.specs.Bool.{OnTrue}
-use Rattle.std.specs.Result.{is_err}
-use Rattle.std.proofs.lemmas.Bool.Decides.{nat_tests}
-use Rattle.std.proofs.lemmas.List.Recursion.{is_count_by}
 use Rattle.std.proofs.lemmas.List.{length-map}
 use Rattle.uring_base.specs.declared.events.Taken.{Taken}
 use Rattle.uring_base.specs.declared.events.Completion.{Completion}
 use Rattle.uring_base.specs.declared.events.LogEvent.{LogEvent}
-use Rattle.uring_base.specs.Completions.{is_final}
 use Rattle.uring_model.specs.Moves.{Move, took, posted}
 use Rattle.uring_model.specs.Progress.{moves_of_turn}
 use Rattle.uring_model.specs.Schedule as schedule
@@ -19,7 +15,6 @@ use Rattle.partner_traits.specs.Calls.{IsCall, IsFullTurn, IsWholeTurn}
 use Rattle.uring_submit.specs.declared.error.SubmitError.{SubmitError}
 use Rattle.uring_submit.specs.declared.error.SubmitError.TheVariants as submit
 use Rattle.rent_engine.specs.declared.fault.EngineFault.{EngineFault}
-use Rattle.rent_engine.specs.declared.fault.EngineFault.TheVariants as faults
 use Rattle.rent_engine.specs.declared.ops.TurnReport.{TurnReport}
 use Rattle.rent_table.specs.Ops.{Ops}
 use Rattle.rent_table.specs.Steps.{KeptSteps}
@@ -28,13 +23,16 @@ use Rattle.rent_engine.specs.Engines.{Reaped, finals_in}
 use Rattle.rent_engine.specs.Faults.{ending, engine_fault_of}
 use Rattle.rent_engine.specs.Turns.{TurnEnds, EngineTurned}
 use Rattle.run_loop.specs.declared.slot.Slot.{Slot}
-use Rattle.run_loop.specs.Slots.{land_all, stranger_among, any_final}
-use Rattle.run_loop.specs.Flights.{all_polled, AreOperated, NoneResolved}
-use Rattle.run_loop.specs.Rounds.{pushed_more, IsCalm, PlacesGoOn, Round, RoundEnds, engine_fault, goes_on}
-use Rattle.run_loop.proofs.LandLemmas.{stranger-append}
+use Rattle.run_loop.specs.Slots.{any_final}
+use Rattle.run_loop.specs.Flights.{AreOperated, NoneResolved}
+use Rattle.run_loop.specs.Rounds.{pushed_more, IsCalm, PlacesGoOn, Round, ReapEnds, IsEntered, engine_fault}
+use Rattle.run_loop.proofs.LandLemmas.{Landed, landed_by, fault_ends, any_by_count}
 use Rattle.run_loop.proofs.Places.{places_of, advances_by}
-use Rattle.run_loop.proofs.FlightLemmas.{none_of, none_polled}
-use Rattle.run_loop.proofs.PumpLemmas.{all_completed}
+use Rattle.run_loop.proofs.FlightLemmas.{none_of}
+
+-- what a round reaped, and whether it entered
+abbrev pub RoundEnds : ℕ → List Slot → List Taken → List Completion → List Slot → Bool → Result Bool RunFault → Type 0
+RoundEnds started slots ts cs slots' entered answer = ReapEnds started slots cs slots' answer × IsEntered ts cs entered answer
 
 abbrev pub offered_to : Lists → List Taken → Lists
 offered_to a ts = all_published (pushed_more ts a)
@@ -201,7 +199,8 @@ module _ {W : Type 0} (mach : schedule.Machine W) {P R : Type 0} (log : P → Op
       pushed = turn_did.went.pushed;
       capacity = turn_did.went.capacity;
       completion_capacity = turn_did.went.held;
-      ends = ends;
+      enters = ends.1;
+      ends = ends.0;
     }
 
     -- with the positions
@@ -214,38 +213,19 @@ module _ {W : Type 0} (mach : schedule.Machine W) {P R : Type 0} (log : P → Op
 
 pub fault_by : (begun : ℕ) (slots slots' : List Slot) (jobs : List ℕ) (ops ops' : Ops) (ts : List Taken) (cs ds posts : List Completion) (entered : Bool) (fault : EngineFault) → AreOperated ops begun slots jobs → NoneResolved ops → posts ≡ cs ++ ds → Ended entered (length ts) ops cs ops' (Err fault)
     → RoundEnds begun slots ts posts slots' entered (Err (engine_fault fault))
-fault_by begun slots slots' jobs ops ops' ts cs ds posts true (faults.Stranger u) a n e h =
-    (refl, ap (stranger_among begun slots) e ∙ stranger-append begun slots cs ds u (ap (λ s. stranger_among begun s cs) (sym (none_polled ops slots n)) ∙ all_completed ops begun slots jobs a cs ops' (Err (faults.Stranger u)) h.0))
-fault_by begun slots slots' jobs ops ops' ts cs ds posts true (faults.Fault errno) a n e h = tt
-fault_by begun slots slots' jobs ops ops' ts cs ds posts true faults.NoMemory a n e h = tt
-fault_by begun slots slots' jobs ops ops' ts cs ds posts false fault a n e (error, h) = let same : fault ≡ engine_fault_of error = cc in subst (λ f. RoundEnds begun slots ts posts slots' false (Err (engine_fault f))) (sym same) (handed_on error)
+fault_by begun slots slots' jobs ops ops' ts cs ds posts true fault a n e h = (
+  subst (λ x. ReapEnds begun slots x slots' (Err (engine_fault fault))) (sym e) (fault_ends begun slots slots' jobs ops ops' cs ds fault a n h.0),
+  λ _. refl,
+)
+fault_by begun slots slots' jobs ops ops' ts cs ds posts false fault a n e (error, h) =
+    let same : fault ≡ engine_fault_of error = cc in
+    subst (λ f. RoundEnds begun slots ts posts slots' false (Err (engine_fault f))) (sym same) (handed_on error)
   where
     handed_on : (error : SubmitError) → RoundEnds begun slots ts posts slots' false (Err (engine_fault (engine_fault_of error)))
-    handed_on submit.Exists = tt
-    handed_on submit.NotRegistered = tt
-    handed_on (submit.Fault errno) = tt
-    handed_on submit.NoMemory = tt
-
--- whether a completion was final
-abbrev finals : List Completion → ℕ
-finals [] = 0
-finals (c ∷ cs) = cond (is_final c.flags) (1 + finals cs) (finals cs)
-
-some_finals : (cs : List Completion) → any_final cs ≡ nat_lt 0 (finals cs)
-some_finals [] = grind (arith, nat_tests)
-some_finals (c ∷ cs) = more (is_final c.flags) (any_final cs) (finals cs) (some_finals cs)
-  where
-    more : (b any : Bool) (n : ℕ) → any ≡ nat_lt 0 n → (b || any) ≡ nat_lt 0 (cond b (1 + n) n)
-    more true any n e = grind (arith, nat_tests)
-    more false any n e = e
-
-pub any_by_count : (cs : List Completion) (n : ℕ) → n ≡ finals_in cs → any_final cs ≡ nat_lt 0 n
-any_by_count cs n e =
-    let k : finals cs ≡ count_by (λ c. is_final c.flags) cs = is_count_by finals (λ c. is_final c.flags) refl (λ x xs. refl) cs in
-    some_finals cs ∙ capped (finals cs) n (e ∙ ap (λ m. min m 4294967295) (sym k))
-  where
-    capped : (k n : ℕ) → n ≡ min k 4294967295 → nat_lt 0 k ≡ nat_lt 0 n
-    capped k n e = grind (arith, nat_tests)
+    handed_on submit.Exists = (tt, λ bad. bad)
+    handed_on submit.NotRegistered = (tt, λ bad. bad)
+    handed_on (submit.Fault errno) = (tt, λ bad. bad)
+    handed_on submit.NoMemory = (tt, λ bad. bad)
 
 -- a turn that succeeded
 
@@ -254,40 +234,23 @@ ended_ok true taken ops cs ops' report h = (refl, h.0, h.1.0, h.1.1)
 ended_ok false taken ops cs ops' report h = let e : Ok report ≡ Err (engine_fault_of h.0) = h.1 in cc
 
 -- all that was posted was taken, nothing of it strange; and the user sees how much fits
-pub record Landed (begun : ℕ) (slots : List Slot) (jobs : List ℕ) (ts : List Taken) (posts : List Completion) (ops' : Ops) (report : TurnReport) (entered : Bool) (after : Lists) (room : ℕ) : Type 0 where
-  pub whole : entered ≡ true
-  pub operated : AreOperated ops' begun slots jobs
-  pub due : stranger_among begun slots posts ≡ None
-  pub lands : all_polled ops' slots ≡ land_all slots posts
-  pub went : (nat_lt 0 report.taken || nat_lt 0 report.finals) ≡ goes_on ts posts
+pub record Turned (begun : ℕ) (slots : List Slot) (jobs : List ℕ) (ts : List Taken) (posts : List Completion) (ops' : Ops) (report : TurnReport) (entered : Bool) (after : Lists) (room : ℕ) : Type 0 where
+  pub landed : Landed begun slots jobs posts ops'
+  pub enters : IsEntered ts posts entered (Ok (nat_lt 0 report.taken || nat_lt 0 report.finals))
   pub none : after.completions ≡ []
   pub seen : room ≡ free_of after
 
-pub landed_of : (kept : Completion → Completion) (a : Lists) (ts : List Taken) (ms : List Move) (ops ops' : Ops) (report : TurnReport) (entered : Bool) (last : Option Lists) (room waiting : ℕ) → (d : Did kept a ts ms ops ops' (Ok report) entered last room waiting) → a.completions ≡ [] → waiting ≡ 0
-    → (begun : ℕ) (slots : List Slot) (jobs : List ℕ) → AreOperated ops begun slots jobs → NoneResolved ops → Landed begun slots jobs (took ms) (map kept (posted ms)) ops' report entered d.went.after room
-landed_of kept a ts ms ops ops' report entered last room waiting d first none begun slots jobs o n =
+pub turned_by : (kept : Completion → Completion) (a : Lists) (ts : List Taken) (ms : List Move) (ops ops' : Ops) (report : TurnReport) (entered : Bool) (last : Option Lists) (room waiting : ℕ) → (d : Did kept a ts ms ops ops' (Ok report) entered last room waiting) → a.completions ≡ [] → waiting ≡ 0
+    → (begun : ℕ) (slots : List Slot) (jobs : List ℕ) → AreOperated ops begun slots jobs → NoneResolved ops → Turned begun slots jobs (took ms) (map kept (posted ms)) ops' report entered d.went.after room
+turned_by kept a ts ms ops ops' report entered last room waiting d first none begun slots jobs o n =
     let e = ended_ok entered (length (took ms)) ops d.cs ops' report d.ended in
     let s : IfSome last (λ l. (room ≡ free_of l) × (waiting ≡ length l.completions)) = subst (λ b. OnTrue b (IfSome last (λ l. (room ≡ free_of l) × (waiting ≡ length l.completions)))) e.0 d.seen in
     let here : (room ≡ free_of d.went.after) × (waiting ≡ length d.went.after.completions) = subst (λ q. IfSome q (λ l. (room ≡ free_of l) × (waiting ≡ length l.completions))) d.went.told s in
     let left : d.went.after.completions ≡ [] = none_of d.went.after.completions (sym here.1 ∙ none) in
     let same : map kept (posted ms) ≡ d.cs = posts_are kept a ms d.cs d.went.after.completions first d.went.posts ∙ ap (λ l. d.cs ++ l) left ∙ append-nil d.cs in
-    let l = all_completed ops begun slots jobs o d.cs ops' (Ok tt) e.1 in
-    let start = none_polled ops slots n in
     record {
-      whole = e.0;
-      operated = l.1;
-      due = (λ i. stranger_among begun (sym start i) (same i)) ∙ l.0;
-      lands = l.2 ∙ (λ i. land_all (start i) (sym same i));
-      went = let finals = ap any_final same ∙ any_by_count d.cs report.finals e.3 in λ i. nat_lt 0 (e.2 i) || sym finals i;
+      landed = subst (λ cs. Landed begun slots jobs cs ops') (sym same) (landed_by begun slots jobs ops ops' d.cs o n e.1);
+      enters = (e.0, let finals = ap any_final same ∙ any_by_count d.cs report.finals e.3 in λ i. nat_lt 0 (e.2 i) || sym finals i);
       none = left;
       seen = here.0;
     }
-
-pub polled_ends : (begun : ℕ) (slots : List Slot) (jobs : List ℕ) (ts : List Taken) (posts : List Completion) (ops' : Ops) (report : TurnReport) (entered : Bool) (after : Lists) (room : ℕ) → Landed begun slots jobs ts posts ops' report entered after room
-    → (begun' : ℕ) (first slots' : List Slot) → begun' ≡ begun → first ≡ slots → slots' ≡ all_polled ops' slots → RoundEnds begun' first ts posts slots' entered (Ok (nat_lt 0 report.taken || nat_lt 0 report.finals))
-polled_ends begun slots jobs ts posts ops' report whole after room l begun' first slots' e f g =
-    (l.whole, (λ i. stranger_among (e i) (f i) posts) ∙ l.due, g ∙ l.lands ∙ ap (λ s. land_all s posts) (sym f), l.went)
-
-pub once_ok : {T E : Type 0} (r : Result T E) (P : Type 0) → is_err r ≡ false → OnOk r P → P
-once_ok (Ok x) P e h = h
-once_ok (Err x) P e h = let bad : true ≡ false = e in cc

@@ -24,7 +24,6 @@ use Rattle.ring_traits.specs.Lists.{Lists, IsKept, HasRoom, all_published, free_
 use Rattle.run_loop.proofs.Prompt.{six_front, six_back, took_turn, served_some, AllFinal, turn_final, final_any, stands, turn_pays, same_turn}
 use Rattle.run_loop.proofs.Asks.{six_all}
 use Rattle.run_loop.proofs.EntryLemmas.{offers_count}
-use Rattle.run_loop.proofs.SlotLemmas.{count_of_done}
 use Rattle.run_loop.proofs.Quiets.{loud_last}
 use Rattle.std.specs.Bool.{OnTrue}
 use Rattle.partner_traits.specs.Calls.{IsCall, IsTurn, IsTurnOf, IsWholeTurn}
@@ -32,15 +31,16 @@ use Rattle.run_loop.specs.declared.entries.Offer.{Offer}
 use Rattle.run_loop.specs.declared.slot.Slot.{Slot}
 use Rattle.run_loop.specs.Entries.{all_taken, lends_in, quiets_in, offers_from, AllValid, AllInRange}
 use Rattle.run_loop.specs.Laws.{ModelLaws}
-use Rattle.run_loop.specs.Told.{idle_turns, unposted}
-use Rattle.run_loop.specs.Flights.{AreAhead}
+use Rattle.run_loop.specs.Told.{idle_turns}
 use Rattle.run_loop.specs.Slots.{slots_from, count_open, land_all, stranger_among, any_final}
 use Rattle.run_loop.specs.Rounds.{pushed_more, IsCalm, goes_on, Round}
 use Rattle.run_loop.specs.Driven.{Driven, IsOpenJob, IsGivenUp}
-use Rattle.run_loop.proofs.Posts.{lands_all, Tells, last_is_quiet, tells_after, taken_after, strange-append, same_strangers, idle_turns-append, idle_rest, all_landed, none_landed, open_job, open_few, slots-length, stranger_kept, land_kept, any_kept}
+use Rattle.run_loop.specs.UserRounds.{UserRun}
+use Rattle.run_loop.proofs.UserLemmas.{entries-length, user_first, user_entries, user_next}
+use Rattle.run_loop.proofs.Posts.{Tells, last_is_quiet, tells_after, taken_after, strange-append, same_strangers, idle_turns-append, idle_rest, all_landed, none_landed, open_job, open_few, stranger_kept, land_kept, any_kept}
 
--- The run so far: what was taken, is published and is still to offer are the offers' entries; the slots are those of the
--- posts; none of these was strange; and the turns are few.
+-- The run so far, which is one of its user's too: what was offered was taken or is published, and what was reaped are the posts.
+-- None of these was strange when it came, and the turns are few.
 pub record Running {W : Type 0} (mach : schedule.Machine W) (view : W → Files) (Plain : W → Type 0) {P R : Type 0} (log : P → Option (List LogEvent)) (state : P → Option (schedule.State W)) (lists : R → Option Lists) (first now : P) (ring : R) (room : ℕ) (todo : List Taken) (started : ℕ) (slots : List Slot) (offers : List Offer) (capacity idle idled : ℕ) : Type 0 where
   pub ms : List Move
   pub logs : IsLogged (log first) ms (log now)
@@ -49,15 +49,13 @@ pub record Running {W : Type 0} (mach : schedule.Machine W) (view : W → Files)
   pub told : lists ring ≡ Some l
   pub calm : IsCalm l room
   pub size : l.capacity ≡ capacity
-  pub entries : took ms ++ (l.published ++ todo) ≡ all_taken offers
+  pub user : UserRun offers (took ms ++ l.published) todo (posted ms) started slots
   pub busy : IsBusy capacity (length offers) 0 (journal_of (log_of ms))
   pub within : TakesWithinTurns 0 ms
   pub few : turns ms + idle * (count_open slots + (length offers - length (took ms))) ≤ idle * (2 * length offers) + idled
   pub resting : count_open slots ≡ 0 → idled ≡ 0
-  pub told_slots : slots ≡ slots_from 0 offers (posted ms)
   pub expected : first_strange (lends_in offers) (quiets_in offers) nothing_seen (log_of ms) ≡ None
   pub idled_is : idled ≡ idle_turns 0 (log_of ms)
-  pub started_is : started ≡ length (took ms) + length l.published
   pub holds : (0 < l.capacity) × (0 < l.completion_capacity)
   pub jobs : List Job
   pub offered : offers ≡ offers_from 0 jobs
@@ -169,9 +167,6 @@ some_is a b e = cc
 pub told_same : {A : Type 0} (o : Option A) (a b : A) → o ≡ Some a → o ≡ Some b → a ≡ b
 told_same o a b p q = some_is a b (sym p ∙ q)
 
-pub entries-length : (offers : List Offer) → length (all_taken offers) ≡ length offers
-entries-length offers = length-map offers (λ o. small o.entry o.loan)
-
 -- what was started, by what is left to offer
 pub started_more : (ts : List Taken) (todo todo' : List Offer) (started started' : ℕ) → all_taken todo ≡ ts ++ all_taken todo' → started' + length todo' ≡ started + length todo → started + length ts ≡ started'
 started_more ts todo todo' started started' split count =
@@ -179,10 +174,14 @@ started_more ts todo todo' started started' split count =
     omega (arith, count, offered)
 
 -- how many entries were taken, are published and are still to offer
-pub counts : (offers : List Offer) (ms : List Move) (published todo : List Taken) → took ms ++ (published ++ todo) ≡ all_taken offers → length (took ms) + (length published + length todo) ≡ length offers
+pub counts : (offers : List Offer) (ms : List Move) (published todo : List Taken) → (took ms ++ published) ++ todo ≡ all_taken offers → length (took ms) + (length published + length todo) ≡ length offers
 counts offers ms published todo e =
     ap (λ x. length (took ms) + x) (sym (length-append published todo))
-    ∙ sym (length-append (took ms) (published ++ todo)) ∙ ap length e ∙ entries-length offers
+    ∙ sym (length-append (took ms) (published ++ todo)) ∙ ap length (sym (append_assoc (took ms) published todo) ∙ e) ∙ entries-length offers
+
+-- how many jobs are started, by what was taken and is published
+begun_by : (started : ℕ) (ms : List Move) (published : List Taken) → started ≡ length (took ms ++ published) → started ≡ length (took ms) + length published
+begun_by started ms published e = e ∙ length-append (took ms) published
 
 called_or : (to_submit : ℕ) (entered : Bool) (b l at : Lists) (ts todo todo' : List Taken) (ms : List Move) (n k started started' : ℕ) → b ≡ l → at ≡ all_published (pushed_more ts b) → HasRoom at → l.pushed ≡ [] → todo ≡ ts ++ todo' → (todo' ≡ []) ⊎ (free_of (pushed_more ts b) ≡ 0)
     → k + length (l.published ++ todo) ≡ n → started ≡ k + length l.published → started' + length todo' ≡ started + length todo → length at.published ≤ to_submit → IsCall entered to_submit (Some at) ms → (ms ≡ []) ⊎ Called n k started' l.capacity ms
@@ -238,26 +237,28 @@ at_published mach view Plain log state lists kept first now new from to room tod
     ∙ ap (λ l. l.published ++ (l.pushed ++ x.round.ts)) (same_lists mach view Plain log state lists kept first now new from to room todo todo' started started' slots slots' offers capacity idle idled answer x)
     ∙ ap (λ y. x.run.l.published ++ (y ++ x.round.ts)) x.run.calm.pushed
 
-next_entries : {W : Type 0} (mach : schedule.Machine W) (view : W → Files) (Plain : W → Type 0) {P R : Type 0} (log : P → Option (List LogEvent)) (state : P → Option (schedule.State W)) (lists : R → Option Lists) (kept : Completion → Completion) (first now new : P) (from to : R) (room : ℕ) (todo todo' : List Taken) (started started' : ℕ) (slots slots' : List Slot) (offers : List Offer) (capacity idle idled : ℕ) (answer : Result Bool RunFault) (x : Next mach view Plain log state lists kept first now new from to room todo todo' started started' slots slots' offers capacity idle idled answer) → took (x.run.ms ++ x.round.ms) ++ (x.round.after.published ++ todo') ≡ all_taken offers
+-- what was offered is taken or published
+next_offered : {W : Type 0} (mach : schedule.Machine W) (view : W → Files) (Plain : W → Type 0) {P R : Type 0} (log : P → Option (List LogEvent)) (state : P → Option (schedule.State W)) (lists : R → Option Lists) (kept : Completion → Completion) (first now new : P) (from to : R) (room : ℕ) (todo todo' : List Taken) (started started' : ℕ) (slots slots' : List Slot) (offers : List Offer) (capacity idle idled : ℕ) (answer : Result Bool RunFault) (x : Next mach view Plain log state lists kept first now new from to room todo todo' started started' slots slots' offers capacity idle idled answer) → (took x.run.ms ++ x.run.l.published) ++ x.round.ts ≡ took (x.run.ms ++ x.round.ms) ++ x.round.after.published
+next_offered mach view Plain log state lists kept first now new from to room todo todo' started started' slots slots' offers capacity idle idled answer x =
+    append_assoc (took x.run.ms) x.run.l.published x.round.ts
+    ∙ ap (λ l. took x.run.ms ++ l) (sym (at_published mach view Plain log state lists kept first now new from to room todo todo' started started' slots slots' offers capacity idle idled answer x) ∙ x.round.taken)
+    ∙ sym (append_assoc (took x.run.ms) (took x.round.ms) x.round.after.published)
+    ∙ ap (λ l. l ++ x.round.after.published) (sym (x.laws.join.takes x.run.ms x.round.ms))
+
+next_entries : {W : Type 0} (mach : schedule.Machine W) (view : W → Files) (Plain : W → Type 0) {P R : Type 0} (log : P → Option (List LogEvent)) (state : P → Option (schedule.State W)) (lists : R → Option Lists) (kept : Completion → Completion) (first now new : P) (from to : R) (room : ℕ) (todo todo' : List Taken) (started started' : ℕ) (slots slots' : List Slot) (offers : List Offer) (capacity idle idled : ℕ) (answer : Result Bool RunFault) (x : Next mach view Plain log state lists kept first now new from to room todo todo' started started' slots slots' offers capacity idle idled answer) → (took (x.run.ms ++ x.round.ms) ++ x.round.after.published) ++ todo' ≡ all_taken offers
 next_entries mach view Plain log state lists kept first now new from to room todo todo' started started' slots slots' offers capacity idle idled answer x =
-    ap (λ l. l ++ (x.round.after.published ++ todo')) (x.laws.join.takes x.run.ms x.round.ms)
-    ∙ append_assoc (took x.run.ms) (took x.round.ms) (x.round.after.published ++ todo')
-    ∙ ap (λ l. took x.run.ms ++ l)
-    (sym (append_assoc (took x.round.ms) x.round.after.published todo')
-    ∙ ap (λ l. l ++ todo') (sym x.round.taken ∙ at_published mach view Plain log state lists kept first now new from to room todo todo' started started' slots slots' offers capacity idle idled answer x)
-    ∙ append_assoc x.run.l.published x.round.ts todo'
-    ∙ ap (λ l. x.run.l.published ++ l) (sym x.round.offered))
-    ∙ x.run.entries
+    ap (λ l. l ++ todo') (sym (next_offered mach view Plain log state lists kept first now new from to room todo todo' started started' slots slots' offers capacity idle idled answer x))
+    ∙ user_entries offers (took x.run.ms ++ x.run.l.published) x.round.ts todo todo' x.run.user.entries x.round.offered
 
 next_called : {W : Type 0} (mach : schedule.Machine W) (view : W → Files) (Plain : W → Type 0) {P R : Type 0} (log : P → Option (List LogEvent)) (state : P → Option (schedule.State W)) (lists : R → Option Lists) (kept : Completion → Completion) (first now new : P) (from to : R) (room : ℕ) (todo todo' : List Taken) (started started' : ℕ) (slots slots' : List Slot) (offers : List Offer) (capacity idle idled : ℕ) (answer : Result Bool RunFault) (x : Next mach view Plain log state lists kept first now new from to room todo todo' started started' slots slots' offers capacity idle idled answer) → (x.round.ms ≡ []) ⊎ Called (length offers) (length (took x.run.ms)) started' x.run.l.capacity x.round.ms
 next_called mach view Plain log state lists kept first now new from to room todo todo' started started' slots slots' offers capacity idle idled answer x =
-    let here : length (took x.run.ms) + length (x.run.l.published ++ todo) ≡ length offers = ap (λ y. length (took x.run.ms) + y) (length-append x.run.l.published todo) ∙ counts offers x.run.ms x.run.l.published todo x.run.entries in
-    called_or x.round.to_submit x.round.entered x.round.before x.run.l x.round.at x.round.ts todo todo' x.round.ms (length offers) (length (took x.run.ms)) started started' (same_lists mach view Plain log state lists kept first now new from to room todo todo' started started' slots slots' offers capacity idle idled answer x) x.round.published x.round.fits x.run.calm.pushed x.round.offered x.round.full here x.run.started_is x.count x.round.enough x.round.call
+    let here : length (took x.run.ms) + length (x.run.l.published ++ todo) ≡ length offers = ap (λ y. length (took x.run.ms) + y) (length-append x.run.l.published todo) ∙ counts offers x.run.ms x.run.l.published todo x.run.user.entries in
+    called_or x.round.to_submit x.round.entered x.round.before x.run.l x.round.at x.round.ts todo todo' x.round.ms (length offers) (length (took x.run.ms)) started started' (same_lists mach view Plain log state lists kept first now new from to room todo todo' started started' slots slots' offers capacity idle idled answer x) x.round.published x.round.fits x.run.calm.pushed x.round.offered x.round.full here (begun_by started x.run.ms x.run.l.published x.run.user.started_is) x.count x.round.enough x.round.call
 
 next_entered : {W : Type 0} (mach : schedule.Machine W) (view : W → Files) (Plain : W → Type 0) {P R : Type 0} (log : P → Option (List LogEvent)) (state : P → Option (schedule.State W)) (lists : R → Option Lists) (kept : Completion → Completion) (first now new : P) (from to : R) (room : ℕ) (todo todo' : List Taken) (started started' : ℕ) (slots slots' : List Slot) (offers : List Offer) (capacity idle idled : ℕ) (answer : Result Bool RunFault) (x : Next mach view Plain log state lists kept first now new from to room todo todo' started started' slots slots' offers capacity idle idled answer) → x.round.entered ≡ true → Called (length offers) (length (took x.run.ms)) started' x.run.l.capacity x.round.ms
 next_entered mach view Plain log state lists kept first now new from to room todo todo' started started' slots slots' offers capacity idle idled answer x e =
-    let here : length (took x.run.ms) + length (x.run.l.published ++ todo) ≡ length offers = ap (λ y. length (took x.run.ms) + y) (length-append x.run.l.published todo) ∙ counts offers x.run.ms x.run.l.published todo x.run.entries in
-    called_turn x.round.to_submit x.round.before x.run.l x.round.at x.round.ts todo todo' x.round.ms (length offers) (length (took x.run.ms)) started started' (same_lists mach view Plain log state lists kept first now new from to room todo todo' started started' slots slots' offers capacity idle idled answer x) x.round.published x.round.fits x.run.calm.pushed x.round.offered x.round.full here x.run.started_is x.count x.round.enough (subst (λ b. IsCall b x.round.to_submit (Some x.round.at) x.round.ms) e x.round.call)
+    let here : length (took x.run.ms) + length (x.run.l.published ++ todo) ≡ length offers = ap (λ y. length (took x.run.ms) + y) (length-append x.run.l.published todo) ∙ counts offers x.run.ms x.run.l.published todo x.run.user.entries in
+    called_turn x.round.to_submit x.round.before x.run.l x.round.at x.round.ts todo todo' x.round.ms (length offers) (length (took x.run.ms)) started started' (same_lists mach view Plain log state lists kept first now new from to room todo todo' started started' slots slots' offers capacity idle idled answer x) x.round.published x.round.fits x.run.calm.pushed x.round.offered x.round.full here (begun_by started x.run.ms x.run.l.published x.run.user.started_is) x.count x.round.enough (subst (λ b. IsCall b x.round.to_submit (Some x.round.at) x.round.ms) e x.round.call)
 
 next_busy : {W : Type 0} (mach : schedule.Machine W) (view : W → Files) (Plain : W → Type 0) {P R : Type 0} (log : P → Option (List LogEvent)) (state : P → Option (schedule.State W)) (lists : R → Option Lists) (kept : Completion → Completion) (first now new : P) (from to : R) (room : ℕ) (todo todo' : List Taken) (started started' : ℕ) (slots slots' : List Slot) (offers : List Offer) (capacity idle idled : ℕ) (answer : Result Bool RunFault) (x : Next mach view Plain log state lists kept first now new from to room todo todo' started started' slots slots' offers capacity idle idled answer) → IsBusy capacity (length offers) 0 (journal_of (log_of (x.run.ms ++ x.round.ms)))
 next_busy mach view Plain log state lists kept first now new from to room todo todo' started started' slots slots' offers capacity idle idled answer x =
@@ -273,44 +274,42 @@ next_within mach view Plain log state lists kept first now new from to room todo
 
 next_inside : {W : Type 0} (mach : schedule.Machine W) (view : W → Files) (Plain : W → Type 0) {P R : Type 0} (log : P → Option (List LogEvent)) (state : P → Option (schedule.State W)) (lists : R → Option Lists) (kept : Completion → Completion) (first now new : P) (from to : R) (room : ℕ) (todo todo' : List Taken) (started started' : ℕ) (slots slots' : List Slot) (offers : List Offer) (capacity idle idled : ℕ) (answer : Result Bool RunFault) (x : Next mach view Plain log state lists kept first now new from to room todo todo' started started' slots slots' offers capacity idle idled answer) → started' ≤ length offers
 next_inside mach view Plain log state lists kept first now new from to room todo todo' started started' slots slots' offers capacity idle idled answer x =
-    omega (arith, counts offers x.run.ms x.run.l.published todo x.run.entries, x.run.started_is, x.count)
+    omega (arith, counts offers x.run.ms x.run.l.published todo x.run.user.entries, (begun_by started x.run.ms x.run.l.published x.run.user.started_is), x.count)
 
 next_strange : {W : Type 0} (mach : schedule.Machine W) (view : W → Files) (Plain : W → Type 0) {P R : Type 0} (log : P → Option (List LogEvent)) (state : P → Option (schedule.State W)) (lists : R → Option Lists) (kept : Completion → Completion) (first now new : P) (from to : R) (room : ℕ) (todo todo' : List Taken) (started started' : ℕ) (slots slots' : List Slot) (offers : List Offer) (capacity idle idled : ℕ) (answer : Result Bool RunFault) (x : Next mach view Plain log state lists kept first now new from to room todo todo' started started' slots slots' offers capacity idle idled answer) → x.round.entered ≡ true → first_strange (lends_in offers) (quiets_in offers) nothing_seen (log_of (x.run.ms ++ x.round.ms)) ≡ stranger_among started' slots (map kept (posted x.round.ms))
 next_strange mach view Plain log state lists kept first now new from to room todo todo' started started' slots slots' offers capacity idle idled answer x e =
     let c = next_entered mach view Plain log state lists kept first now new from to room todo todo' started started' slots slots' offers capacity idle idled answer x e in
     ap (λ ms. first_strange (lends_in offers) (quiets_in offers) nothing_seen (log_of (x.run.ms ++ ms))) c.moves
-    ∙ call_strange offers x.run.ms c.p c.rest started' slots (running_loud mach view Plain log state lists first now from room todo started slots offers capacity idle idled x.run) x.run.expected c.one c.all (next_inside mach view Plain log state lists kept first now new from to room todo todo' started started' slots slots' offers capacity idle idled answer x) x.run.told_slots
+    ∙ call_strange offers x.run.ms c.p c.rest started' slots (running_loud mach view Plain log state lists first now from room todo started slots offers capacity idle idled x.run) x.run.expected c.one c.all (next_inside mach view Plain log state lists kept first now new from to room todo todo' started started' slots slots' offers capacity idle idled answer x) x.run.user.told_slots
     ∙ ap (λ ms. stranger_among started' slots (posted ms)) (sym c.moves)
     ∙ sym (stranger_kept kept x.keeps started' slots (posted x.round.ms))
 
 next_ran : {W : Type 0} (mach : schedule.Machine W) (view : W → Files) (Plain : W → Type 0) {P R : Type 0} (log : P → Option (List LogEvent)) (state : P → Option (schedule.State W)) (lists : R → Option Lists) (kept : Completion → Completion) (first now new : P) (from to : R) (room : ℕ) (todo todo' : List Taken) (started started' : ℕ) (slots slots' : List Slot) (offers : List Offer) (capacity idle idled : ℕ) (answer : Result Bool RunFault) (x : Next mach view Plain log state lists kept first now new from to room todo todo' started started' slots slots' offers capacity idle idled answer) → Driven mach log state first new offers capacity idle
 next_ran mach view Plain log state lists kept first now new from to room todo todo' started started' slots slots' offers capacity idle idled answer x =
     record {
-      moves = x.run.ms ++ x.round.ms;
-      ahead = x.round.after.published ++ todo';
-      logs = x.laws.join.logs (log first) (log now) (log new) x.run.ms x.round.ms x.run.logs x.round.logs;
-      states = x.laws.world.join (state first) (state now) (state new) x.run.ms x.round.ms x.run.states x.round.states;
-      entries = next_entries mach view Plain log state lists kept first now new from to room todo todo' started started' slots slots' offers capacity idle idled answer x;
-      busy = next_busy mach view Plain log state lists kept first now new from to room todo todo' started started' slots slots' offers capacity idle idled answer x;
-      within = next_within mach view Plain log state lists kept first now new from to room todo todo' started started' slots slots' offers capacity idle idled answer x;
-      few = let t = call_turns x.run.l.capacity (length offers) (length (took x.run.ms)) started' x.round.ms (next_called mach view Plain log state lists kept first now new from to room todo todo' started started' slots slots' offers capacity idle idled answer x) in subst (λ k. k ≤ idle * (2 * length offers)) (sym (x.laws.join.turning x.run.ms x.round.ms)) (few_last idle (2 * length offers) (turns x.run.ms) (count_open slots + (length offers - length (took x.run.ms))) idled (turns x.round.ms) x.run.few (omega (arith, x.unfinished)) x.waits t);
+      ran = record {
+        moves = x.run.ms ++ x.round.ms;
+        ahead = x.round.after.published ++ todo';
+        logs = x.laws.join.logs (log first) (log now) (log new) x.run.ms x.round.ms x.run.logs x.round.logs;
+        states = x.laws.world.join (state first) (state now) (state new) x.run.ms x.round.ms x.run.states x.round.states;
+        entries = sym (append_assoc (took (x.run.ms ++ x.round.ms)) x.round.after.published todo') ∙ next_entries mach view Plain log state lists kept first now new from to room todo todo' started started' slots slots' offers capacity idle idled answer x;
+        within = next_within mach view Plain log state lists kept first now new from to room todo todo' started started' slots slots' offers capacity idle idled answer x;
+      };
+      full = record {
+        busy = next_busy mach view Plain log state lists kept first now new from to room todo todo' started started' slots slots' offers capacity idle idled answer x;
+        few = let t = call_turns x.run.l.capacity (length offers) (length (took x.run.ms)) started' x.round.ms (next_called mach view Plain log state lists kept first now new from to room todo todo' started started' slots slots' offers capacity idle idled answer x) in subst (λ k. k ≤ idle * (2 * length offers)) (sym (x.laws.join.turning x.run.ms x.round.ms)) (few_last idle (2 * length offers) (turns x.run.ms) (count_open slots + (length offers - length (took x.run.ms))) idled (turns x.round.ms) x.run.few (omega (arith, x.unfinished)) x.waits t);
+      };
     }
 
 -- a round that ends well
 
-next_posts : {W : Type 0} (mach : schedule.Machine W) (view : W → Files) (Plain : W → Type 0) {P R : Type 0} (log : P → Option (List LogEvent)) (state : P → Option (schedule.State W)) (lists : R → Option Lists) (kept : Completion → Completion) (first now new : P) (from to : R) (room : ℕ) (todo todo' : List Taken) (started started' : ℕ) (slots slots' : List Slot) (offers : List Offer) (capacity idle idled : ℕ) (went : Bool) (x : Next mach view Plain log state lists kept first now new from to room todo todo' started started' slots slots' offers capacity idle idled (Ok went)) → stranger_among started' (slots_from 0 offers (posted x.run.ms)) (posted x.round.ms) ≡ None
-next_posts mach view Plain log state lists kept first now new from to room todo todo' started started' slots slots' offers capacity idle idled went x =
-    ap (λ y. stranger_among started' y (posted x.round.ms)) (sym x.run.told_slots)
-    ∙ sym (stranger_kept kept x.keeps started' slots (posted x.round.ms))
-    ∙ x.round.ends.1
-
 next_slots : {W : Type 0} (mach : schedule.Machine W) (view : W → Files) (Plain : W → Type 0) {P R : Type 0} (log : P → Option (List LogEvent)) (state : P → Option (schedule.State W)) (lists : R → Option Lists) (kept : Completion → Completion) (first now new : P) (from to : R) (room : ℕ) (todo todo' : List Taken) (started started' : ℕ) (slots slots' : List Slot) (offers : List Offer) (capacity idle idled : ℕ) (went : Bool) (x : Next mach view Plain log state lists kept first now new from to room todo todo' started started' slots slots' offers capacity idle idled (Ok went)) → slots' ≡ land_all slots (posted x.round.ms)
 next_slots mach view Plain log state lists kept first now new from to room todo todo' started started' slots slots' offers capacity idle idled went x =
-    x.round.ends.2 ∙ land_kept kept x.keeps slots (posted x.round.ms)
+    x.round.ends.1 ∙ land_kept kept x.keeps slots (posted x.round.ms)
 
 next_goes : {W : Type 0} (mach : schedule.Machine W) (view : W → Files) (Plain : W → Type 0) {P R : Type 0} (log : P → Option (List LogEvent)) (state : P → Option (schedule.State W)) (lists : R → Option Lists) (kept : Completion → Completion) (first now new : P) (from to : R) (room : ℕ) (todo todo' : List Taken) (started started' : ℕ) (slots slots' : List Slot) (offers : List Offer) (capacity idle idled : ℕ) (went : Bool) (x : Next mach view Plain log state lists kept first now new from to room todo todo' started started' slots slots' offers capacity idle idled (Ok went)) → went ≡ goes_on (took x.round.ms) (posted x.round.ms)
 next_goes mach view Plain log state lists kept first now new from to room todo todo' started started' slots slots' offers capacity idle idled went x =
-    x.round.ends.3 ∙ ap (λ b. nat_lt 0 (length (took x.round.ms)) || b) (any_kept kept x.keeps (posted x.round.ms))
+    x.round.enters.1 ∙ ap (λ b. nat_lt 0 (length (took x.round.ms)) || b) (any_kept kept x.keeps (posted x.round.ms))
 
 -- how many offers are untaken or have no outcome
 abbrev pub left_of : ℕ → List Slot → List Move → ℕ
@@ -329,7 +328,7 @@ fewer_left (suc m) any o o' n k k' h e le =
 
 pub next_left : {W : Type 0} (mach : schedule.Machine W) (view : W → Files) (Plain : W → Type 0) {P R : Type 0} (log : P → Option (List LogEvent)) (state : P → Option (schedule.State W)) (lists : R → Option Lists) (kept : Completion → Completion) (first now new : P) (from to : R) (room : ℕ) (todo todo' : List Taken) (started started' : ℕ) (slots slots' : List Slot) (offers : List Offer) (capacity idle idled : ℕ) (went : Bool) (x : Next mach view Plain log state lists kept first now new from to room todo todo' started started' slots slots' offers capacity idle idled (Ok went)) → left_of (length offers) slots' (x.run.ms ++ x.round.ms) + cond went 1 0 ≤ left_of (length offers) slots x.run.ms
 next_left mach view Plain log state lists kept first now new from to room todo todo' started started' slots slots' offers capacity idle idled went x =
-    let due : stranger_among started' slots (posted x.round.ms) ≡ None = sym (stranger_kept kept x.keeps started' slots (posted x.round.ms)) ∙ x.round.ends.1 in
+    let due : stranger_among started' slots (posted x.round.ms) ≡ None = sym (stranger_kept kept x.keeps started' slots (posted x.round.ms)) ∙ x.round.ends.0 in
     let landed : count_open slots' + cond (any_final (posted x.round.ms)) 1 0 ≤ count_open slots =
     subst (λ y. count_open y + cond (any_final (posted x.round.ms)) 1 0 ≤ count_open slots) (sym (next_slots mach view Plain log state lists kept first now new from to room todo todo' started started' slots slots' offers capacity idle idled went x)) (all_landed started' slots (posted x.round.ms) due) in
     let more : length (took (x.run.ms ++ x.round.ms)) ≡ length (took x.run.ms) + length (took x.round.ms) = ap length (x.laws.join.takes x.run.ms x.round.ms) ∙ length-append (took x.run.ms) (took x.round.ms) in
@@ -353,14 +352,14 @@ took_rest p rest ms e = ap (λ l. goes_on (took l) (posted l)) e
 next_idle : {W : Type 0} (mach : schedule.Machine W) (view : W → Files) (Plain : W → Type 0) {P R : Type 0} (log : P → Option (List LogEvent)) (state : P → Option (schedule.State W)) (lists : R → Option Lists) (kept : Completion → Completion) (first now new : P) (from to : R) (room : ℕ) (todo todo' : List Taken) (started started' : ℕ) (slots slots' : List Slot) (offers : List Offer) (capacity idle idled : ℕ) (went : Bool) (x : Next mach view Plain log state lists kept first now new from to room todo todo' started started' slots slots' offers capacity idle idled (Ok went)) → (q' : ℕ) → q' ≡ cond went 0 (idled + 1) → q' ≡ idle_turns 0 (log_of (x.run.ms ++ x.round.ms))
 next_idle mach view Plain log state lists kept first now new from to room todo todo' started started' slots slots' offers capacity idle idled went x =
     λ q' e.
-    let c = next_entered mach view Plain log state lists kept first now new from to room todo todo' started started' slots slots' offers capacity idle idled (Ok went) x x.round.ends.0 in
+    let c = next_entered mach view Plain log state lists kept first now new from to room todo todo' started started' slots slots' offers capacity idle idled (Ok went) x x.round.enters.0 in
     e ∙ ap (λ b. cond b 0 (idled + 1)) (next_goes mach view Plain log state lists kept first now new from to room todo todo' started started' slots slots' offers capacity idle idled went x ∙ took_rest c.p c.rest x.round.ms c.moves)
     ∙ sym (call_idle x.run.ms c.p c.rest idled c.one x.run.idled_is)
     ∙ ap (λ ms. idle_turns 0 (log_of (x.run.ms ++ ms))) (sym c.moves)
 
 next_turns : {W : Type 0} (mach : schedule.Machine W) (view : W → Files) (Plain : W → Type 0) {P R : Type 0} (log : P → Option (List LogEvent)) (state : P → Option (schedule.State W)) (lists : R → Option Lists) (kept : Completion → Completion) (first now new : P) (from to : R) (room : ℕ) (todo todo' : List Taken) (started started' : ℕ) (slots slots' : List Slot) (offers : List Offer) (capacity idle idled : ℕ) (went : Bool) (x : Next mach view Plain log state lists kept first now new from to room todo todo' started started' slots slots' offers capacity idle idled (Ok went)) → turns (x.run.ms ++ x.round.ms) ≡ turns x.run.ms + 1
 next_turns mach view Plain log state lists kept first now new from to room todo todo' started started' slots slots' offers capacity idle idled went x =
-    let c = next_entered mach view Plain log state lists kept first now new from to room todo todo' started started' slots slots' offers capacity idle idled (Ok went) x x.round.ends.0 in
+    let c = next_entered mach view Plain log state lists kept first now new from to room todo todo' started started' slots slots' offers capacity idle idled (Ok went) x x.round.enters.0 in
     let one : turns x.round.ms ≡ suc (turns c.rest) = ap turns c.moves in
     x.laws.join.turning x.run.ms x.round.ms ∙ omega (arith, one, c.one)
 
@@ -391,9 +390,9 @@ next_prompt : {W : Type 0} (mach : schedule.Machine W) (view : W → Files) (Pla
     → (idled' ≡ 0) × EachSettles false (x.run.ms ++ x.round.ms)
 next_prompt mach view Plain log state lists kept first now new from to room todo todo' started started' slots slots' offers capacity idle idled went x idled' e a told is_idle =
     let q = x.run.prompt a told is_idle in
-    let c = next_entered mach view Plain log state lists kept first now new from to room todo todo' started started' slots slots' offers capacity idle idled (Ok went) x x.round.ends.0 in
+    let c = next_entered mach view Plain log state lists kept first now new from to room todo todo' started started' slots slots' offers capacity idle idled (Ok went) x x.round.enters.0 in
     let b = served_some mach a x.run.ms (state now) (subst (λ o. schedule.IsServed mach o x.run.ms (state now)) told x.run.states) in
-    let w : IsTurnOf mach b.0 x.round.at x.round.ms = subst (λ o. IsWholeTurn mach o (Some x.round.at) x.round.ms) b.1 (on_true x.round.entered (IsWholeTurn mach (state now) (Some x.round.at) x.round.ms) x.round.ends.0 x.round.whole) in
+    let w : IsTurnOf mach b.0 x.round.at x.round.ms = subst (λ o. IsWholeTurn mach o (Some x.round.at) x.round.ms) b.1 (on_true x.round.entered (IsWholeTurn mach (state now) (Some x.round.at) x.round.ms) x.round.enters.0 x.round.whole) in
     let es = (turn mach w.ts (room_of x.round.at) b.0).ends in
     let posts : posted x.round.ms ≡ posts_of es = ap posted w.moves ∙ x.laws.turn_posts w.ts es in
     let at_room : room_of x.round.at ≡ x.run.l.completion_capacity - (length x.run.l.completions + 0) = ap room_of x.round.published ∙ ap (λ l. l.completion_capacity - (length l.completions + 0)) (same_lists mach view Plain log state lists kept first now new from to room todo todo' started started' slots slots' offers capacity idle idled (Ok went) x) in
@@ -402,18 +401,18 @@ next_prompt mach view Plain log state lists kept first now new from to room todo
     let room_is : 0 < room_of x.round.at = omega (arith, at_room, none, holds.1) in
     let whole = next_entries mach view Plain log state lists kept first now new from to room todo todo' started started' slots slots' offers capacity idle idled (Ok went) x in
     let all_six : AllByRecursion IsJobEntry (all_taken offers) = subst (λ o. AllByRecursion IsJobEntry (all_taken o)) (sym x.run.offered) (six_all 0 x.run.jobs x.run.valid x.run.range) in
-    let took_all : AllByRecursion IsJobEntry (took (x.run.ms ++ x.round.ms)) = six_front (took (x.run.ms ++ x.round.ms)) (x.round.after.published ++ todo') (subst (AllByRecursion IsJobEntry) (sym whole) all_six) in
+    let took_all : AllByRecursion IsJobEntry (took (x.run.ms ++ x.round.ms)) = six_front (took (x.run.ms ++ x.round.ms)) (x.round.after.published ++ todo') (subst (AllByRecursion IsJobEntry) (sym (sym (append_assoc (took (x.run.ms ++ x.round.ms)) x.round.after.published todo') ∙ whole)) all_six) in
     let took_both : AllByRecursion IsJobEntry (took x.run.ms ++ took x.round.ms) = subst (AllByRecursion IsJobEntry) (x.laws.join.takes x.run.ms x.round.ms) took_all in
     let six_run : AllByRecursion IsJobEntry (took x.run.ms) = six_front (took x.run.ms) (took x.round.ms) took_both in
     let takes : took x.round.ms ≡ w.ts = ap took w.moves ∙ took_turn w.ts es in
     let six_ts : AllByRecursion IsJobEntry w.ts = subst (AllByRecursion IsJobEntry) takes (six_back (took x.run.ms) (took x.round.ms) took_both) in
     let number : c.p ≡ length w.ts = same_turn c.p (length w.ts) c.rest w.ts es x.round.ms c.moves w.moves in
     let stood = stands mach view Plain x.laws a b.0 x.run.ms is_idle b.2 six_run in
-    let left : 0 < count_open (slots_from 0 offers (posted x.run.ms)) = subst (λ y. 0 < count_open y) x.run.told_slots x.unfinished in
+    let left : 0 < count_open (slots_from 0 offers (posted x.run.ms)) = subst (λ y. 0 < count_open y) x.run.user.told_slots x.unfinished in
     let waits = open_job offers (posted x.run.ms) (ended_in (log_of x.run.ms)) (running_tells mach view Plain log state lists first now from room todo started slots offers capacity idle idled x.run) (running_loud mach view Plain log state lists first now from room todo started slots offers capacity idle idled x.run) left in
     let pays = turn_pays mach view Plain x.laws x.run.jobs a b.0 x.run.ms w.ts (room_of x.round.at) stood x.run.valid x.run.range six_ts
     (λ z. (
-      all_taken_first offers x.run.ms (x.run.l.published ++ todo) c.p (length offers) x.run.l.capacity x.run.entries (omega (arith, number, z)) c.full holds.0 ∙ ap all_taken x.run.offered,
+      all_taken_first offers x.run.ms (x.run.l.published ++ todo) c.p (length offers) x.run.l.capacity (sym (append_assoc (took x.run.ms) x.run.l.published todo) ∙ x.run.user.entries) (omega (arith, number, z)) c.full holds.0 ∙ ap all_taken x.run.offered,
       (waits.0, subst (λ n. waits.0 < n) (ap length x.run.offered ∙ offers_count 0 x.run.jobs) waits.1, ap (λ o. is_answered (quiets_in o) (ended_in (log_of x.run.ms)) waits.0) (sym x.run.offered) ∙ waits.2),
     )) room_is in
     let final : AllFinal (posts_of es) = turn_final mach (length (take_all b.0 w.ts).pending) (room_of x.round.at) (take_all b.0 w.ts) in
@@ -423,33 +422,33 @@ next_prompt mach view Plain log state lists kept first now new from to room todo
     let settles : EachSettles false x.round.ms = subst (EachSettles false) (sym w.moves) (x.laws.settling (length w.ts) w.ts es pays.settles) in
     (e ∙ ap (λ b. cond b 0 (idled + 1)) yes_went, x.laws.settling_join x.run.ms x.round.ms q.1 settles)
 
+-- the user's run
+next_user : {W : Type 0} (mach : schedule.Machine W) (view : W → Files) (Plain : W → Type 0) {P R : Type 0} (log : P → Option (List LogEvent)) (state : P → Option (schedule.State W)) (lists : R → Option Lists) (kept : Completion → Completion) (first now new : P) (from to : R) (room : ℕ) (todo todo' : List Taken) (started started' : ℕ) (slots slots' : List Slot) (offers : List Offer) (capacity idle idled : ℕ) (went : Bool) (x : Next mach view Plain log state lists kept first now new from to room todo todo' started started' slots slots' offers capacity idle idled (Ok went)) → UserRun offers (took (x.run.ms ++ x.round.ms) ++ x.round.after.published) todo' (posted (x.run.ms ++ x.round.ms)) started' slots'
+next_user mach view Plain log state lists kept first now new from to room todo todo' started started' slots slots' offers capacity idle idled went x =
+    let split : length todo ≡ length x.round.ts + length todo' = ap length x.round.offered ∙ length-append x.round.ts todo' in
+    let grown = user_next offers (took x.run.ms ++ x.run.l.published) x.round.ts todo todo' (posted x.run.ms) (posted x.round.ms) started started' slots slots' x.run.user x.round.offered (omega (arith, split, x.count))
+    (sym (stranger_kept kept x.keeps started' slots (posted x.round.ms)) ∙ x.round.ends.0) (next_slots mach view Plain log state lists kept first now new from to room todo todo' started started' slots slots' offers capacity idle idled went x) in
+    subst (λ cs. UserRun offers (took (x.run.ms ++ x.round.ms) ++ x.round.after.published) todo' cs started' slots') (sym (x.laws.join.posts x.run.ms x.round.ms))
+    (subst (λ ts. UserRun offers ts todo' (posted x.run.ms ++ posted x.round.ms) started' slots') (next_offered mach view Plain log state lists kept first now new from to room todo todo' started started' slots slots' offers capacity idle idled (Ok went) x) grown)
+
 pub running_next : {W : Type 0} (mach : schedule.Machine W) (view : W → Files) (Plain : W → Type 0) {P R : Type 0} (log : P → Option (List LogEvent)) (state : P → Option (schedule.State W)) (lists : R → Option Lists) (kept : Completion → Completion) (first now new : P) (from to : R) (room : ℕ) (todo todo' : List Taken) (started started' : ℕ) (slots slots' : List Slot) (offers : List Offer) (capacity idle idled : ℕ) (went : Bool) (room' idled' : ℕ) → (x : Next mach view Plain log state lists kept first now new from to room todo todo' started started' slots slots' offers capacity idle idled (Ok went)) → (l : Lists) × (lists to ≡ Some l) × IsCalm l room' → idled' ≡ cond went 0 (idled + 1)
     → Running mach view Plain log state lists first new to room' todo' started' slots' offers capacity idle idled'
 running_next mach view Plain log state lists kept first now new from to room todo todo' started started' slots slots' offers capacity idle idled went room' idled' x calm e =
-    let entries = next_entries mach view Plain log state lists kept first now new from to room todo todo' started started' slots slots' offers capacity idle idled (Ok went) x in
-    let ms = x.run.ms ++ x.round.ms in
-    let counted = counts offers ms x.round.after.published todo' entries in
-    let before = counts offers x.run.ms x.run.l.published todo x.run.entries in
     record {
-      ms = ms;
+      ms = x.run.ms ++ x.round.ms;
       logs = x.laws.join.logs (log first) (log now) (log new) x.run.ms x.round.ms x.run.logs x.round.logs;
       states = x.laws.world.join (state first) (state now) (state new) x.run.ms x.round.ms x.run.states x.round.states;
       l = x.round.after;
       told = x.round.told_after;
       calm = subst (λ y. IsCalm y room') (told_same (lists to) calm.0 x.round.after calm.1 x.round.told_after) calm.2;
       size = x.round.capacity ∙ ap (λ y. y.capacity) x.round.published ∙ ap (λ y. y.capacity) (same_lists mach view Plain log state lists kept first now new from to room todo todo' started started' slots slots' offers capacity idle idled (Ok went) x) ∙ x.run.size;
-      entries = entries;
+      user = next_user mach view Plain log state lists kept first now new from to room todo todo' started started' slots slots' offers capacity idle idled went x;
       busy = next_busy mach view Plain log state lists kept first now new from to room todo todo' started started' slots slots' offers capacity idle idled (Ok went) x;
       within = next_within mach view Plain log state lists kept first now new from to room todo todo' started started' slots slots' offers capacity idle idled (Ok went) x;
       few = subst (λ k. k + idle * left_of (length offers) slots' (x.run.ms ++ x.round.ms) ≤ idle * (2 * length offers) + idled') (sym (next_turns mach view Plain log state lists kept first now new from to room todo todo' started started' slots slots' offers capacity idle idled went x)) (few_next went idle (2 * length offers) (turns x.run.ms) (left_of (length offers) slots x.run.ms) (left_of (length offers) slots' (x.run.ms ++ x.round.ms)) idled idled' x.run.few (next_left mach view Plain log state lists kept first now new from to room todo todo' started started' slots slots' offers capacity idle idled went x) x.waits e);
       resting = resting_next went idled idled' slots slots' (took x.round.ms) (posted x.round.ms) e (next_slots mach view Plain log state lists kept first now new from to room todo todo' started started' slots slots' offers capacity idle idled went x) (next_goes mach view Plain log state lists kept first now new from to room todo todo' started started' slots slots' offers capacity idle idled went x) x.unfinished;
-      told_slots =
-          next_slots mach view Plain log state lists kept first now new from to room todo todo' started started' slots slots' offers capacity idle idled went x ∙ ap (λ y. land_all y (posted x.round.ms)) x.run.told_slots
-          ∙ lands_all started' offers (posted x.run.ms) (posted x.round.ms) (next_posts mach view Plain log state lists kept first now new from to room todo todo' started started' slots slots' offers capacity idle idled went x)
-          ∙ ap (slots_from 0 offers) (sym (x.laws.join.posts x.run.ms x.round.ms));
-      expected = next_strange mach view Plain log state lists kept first now new from to room todo todo' started started' slots slots' offers capacity idle idled (Ok went) x x.round.ends.0 ∙ x.round.ends.1;
+      expected = next_strange mach view Plain log state lists kept first now new from to room todo todo' started started' slots slots' offers capacity idle idled (Ok went) x x.round.enters.0 ∙ x.round.ends.0;
       idled_is = next_idle mach view Plain log state lists kept first now new from to room todo todo' started started' slots slots' offers capacity idle idled went x idled' e;
-      started_is = omega (arith, counted, before, x.run.started_is, x.count);
       holds =
           let cap : x.round.after.capacity ≡ x.run.l.capacity = x.round.capacity ∙ ap (λ y. y.capacity) x.round.published ∙ ap (λ y. y.capacity) (same_lists mach view Plain log state lists kept first now new from to room todo todo' started started' slots slots' offers capacity idle idled (Ok went) x) in
           let posts_fit : x.round.after.completion_capacity ≡ x.run.l.completion_capacity = x.round.completion_capacity ∙ ap (λ y. y.completion_capacity) x.round.published ∙ ap (λ y. y.completion_capacity) (same_lists mach view Plain log state lists kept first now new from to room todo todo' started started' slots slots' offers capacity idle idled (Ok went) x) in
@@ -469,14 +468,14 @@ next_moves mach view Plain log state lists kept first now new from to room todo 
 -- a round that ends with a fault
 
 faulted_next : {W : Type 0} (mach : schedule.Machine W) (view : W → Files) (Plain : W → Type 0) {P R : Type 0} (log : P → Option (List LogEvent)) (state : P → Option (schedule.State W)) (lists : R → Option Lists) (kept : Completion → Completion) (first now new : P) (from to : R) (room : ℕ) (todo todo' : List Taken) (started started' : ℕ) (slots slots' : List Slot) (offers : List Offer) (capacity idle idled : ℕ) (e : RunFault) → (x : Next mach view Plain log state lists kept first now new from to room todo todo' started started' slots slots' offers capacity idle idled (Err e)) → IsGivenUp offers idle (log_of (x.run.ms ++ x.round.ms)) e
-faulted_next mach view Plain log state lists kept first now new from to room todo todo' started started' slots slots' offers capacity idle idled (faults.Stranger u) x = next_strange mach view Plain log state lists kept first now new from to room todo todo' started started' slots slots' offers capacity idle idled (Err (faults.Stranger u)) x x.round.ends.0 ∙ x.round.ends.1
+faulted_next mach view Plain log state lists kept first now new from to room todo todo' started started' slots slots' offers capacity idle idled (faults.Stranger u) x = next_strange mach view Plain log state lists kept first now new from to room todo todo' started started' slots slots' offers capacity idle idled (Err (faults.Stranger u)) x (x.round.enters refl) ∙ x.round.ends
 faulted_next mach view Plain log state lists kept first now new from to room todo todo' started started' slots slots' offers capacity idle idled faults.PartnerFault x = tt
 faulted_next mach view Plain log state lists kept first now new from to room todo todo' started started' slots slots' offers capacity idle idled faults.NoMemory x = tt
 faulted_next mach view Plain log state lists kept first now new from to room todo todo' started started' slots slots' offers capacity idle idled faults.BadSize x = absurd x.round.ends
 faulted_next mach view Plain log state lists kept first now new from to room todo todo' started started' slots slots' offers capacity idle idled (faults.BadJob n) x = absurd x.round.ends
 faulted_next mach view Plain log state lists kept first now new from to room todo todo' started started' slots slots' offers capacity idle idled faults.Stalled x = absurd x.round.ends
 
-pub next_faulted : {W : Type 0} (mach : schedule.Machine W) (view : W → Files) (Plain : W → Type 0) {P R : Type 0} (log : P → Option (List LogEvent)) (state : P → Option (schedule.State W)) (lists : R → Option Lists) (kept : Completion → Completion) (first now new : P) (from to : R) (room : ℕ) (todo todo' : List Taken) (started started' : ℕ) (slots slots' : List Slot) (offers : List Offer) (capacity idle idled : ℕ) (e : RunFault) → (x : Next mach view Plain log state lists kept first now new from to room todo todo' started started' slots slots' offers capacity idle idled (Err e)) → (r : Driven mach log state first new offers capacity idle) × IsGivenUp offers idle (log_of r.moves) e
+pub next_faulted : {W : Type 0} (mach : schedule.Machine W) (view : W → Files) (Plain : W → Type 0) {P R : Type 0} (log : P → Option (List LogEvent)) (state : P → Option (schedule.State W)) (lists : R → Option Lists) (kept : Completion → Completion) (first now new : P) (from to : R) (room : ℕ) (todo todo' : List Taken) (started started' : ℕ) (slots slots' : List Slot) (offers : List Offer) (capacity idle idled : ℕ) (e : RunFault) → (x : Next mach view Plain log state lists kept first now new from to room todo todo' started started' slots slots' offers capacity idle idled (Err e)) → (r : Driven mach log state first new offers capacity idle) × IsGivenUp offers idle (log_of r.ran.moves) e
 unfolding next_ran
 next_faulted mach view Plain log state lists kept first now new from to room todo todo' started started' slots slots' offers capacity idle idled e x = (next_ran mach view Plain log state lists kept first now new from to room todo todo' started started' slots slots' offers capacity idle idled (Err e) x, faulted_next mach view Plain log state lists kept first now new from to room todo todo' started started' slots slots' offers capacity idle idled e x)
 
@@ -490,20 +489,24 @@ untaken (Some l) todo = length l.published + todo
 abbrev pub running_ran : {W : Type 0} (mach : schedule.Machine W) (view : W → Files) (Plain : W → Type 0) {P R : Type 0} (log : P → Option (List LogEvent)) (state : P → Option (schedule.State W)) (lists : R → Option Lists) (first now : P) (ring : R) (room : ℕ) (todo : List Taken) (started : ℕ) (slots : List Slot) (offers : List Offer) (capacity idle idled : ℕ)
     → (x : Running mach view Plain log state lists first now ring room todo started slots offers capacity idle idled) → turns x.ms ≤ idle * (2 * length offers) → Driven mach log state first now offers capacity idle
 running_ran mach view Plain log state lists first now ring room todo started slots offers capacity idle idled x few = record {
-  moves = x.ms;
-  ahead = x.l.published ++ todo;
-  logs = x.logs;
-  states = x.states;
-  entries = x.entries;
-  busy = x.busy;
-  within = x.within;
-  few = few;
+  ran = record {
+    moves = x.ms;
+    ahead = x.l.published ++ todo;
+    logs = x.logs;
+    states = x.states;
+    entries = sym (append_assoc (took x.ms) x.l.published todo) ∙ x.user.entries;
+    within = x.within;
+  };
+  full = record {
+    busy = x.busy;
+    few = few;
+  };
 }
 
 pub stalled_end : {W : Type 0} (mach : schedule.Machine W) (view : W → Files) (Plain : W → Type 0) {P R : Type 0} (log : P → Option (List LogEvent)) (state : P → Option (schedule.State W)) (lists : R → Option Lists) (first now : P) (ring : R) (room : ℕ) (todo : List Taken) (started : ℕ) (slots : List Slot) (offers : List Offer) (capacity idle idled : ℕ)
     → (x : Running mach view Plain log state lists first now ring room todo started slots offers capacity idle idled) → idled ≡ idle → 0 < count_open slots → (turns x.ms ≤ idle * (2 * length offers)) × IsOpenJob offers idle (log_of x.ms)
 stalled_end mach view Plain log state lists first now ring room todo started slots offers capacity idle idled x e h =
-    let left : 0 < count_open (slots_from 0 offers (posted x.ms)) = subst (λ y. 0 < count_open y) x.told_slots h in
+    let left : 0 < count_open (slots_from 0 offers (posted x.ms)) = subst (λ y. 0 < count_open y) x.user.told_slots h in
     let j = open_job offers (posted x.ms) (ended_in (log_of x.ms)) (running_tells mach view Plain log state lists first now ring room todo started slots offers capacity idle idled x) (running_loud mach view Plain log state lists first now ring room todo started slots offers capacity idle idled x) left in (
       few_stalled idle (2 * length offers) (turns x.ms) (left_of (length offers) slots x.ms) idled x.few (omega (arith, h)) e,
       record {
@@ -524,24 +527,13 @@ pub whole_end : {W : Type 0} (mach : schedule.Machine W) (view : W → Files) (P
     → (x : Running mach view Plain log state lists first now ring room todo started slots offers capacity idle idled) → count_open slots ≡ 0 → turns x.ms ≤ idle * (2 * length offers)
 whole_end mach view Plain log state lists first now ring room todo started slots offers capacity idle idled x z = few_end idle (2 * length offers) (turns x.ms) (left_of (length offers) slots x.ms) idled x.few (x.resting z)
 
-none_ahead : (n : ℕ) (slots : List Slot) (todo : List Offer) → AreAhead n slots todo → count_open slots ≡ 0 → todo ≡ []
-none_ahead n slots [] ahead none = refl
-none_ahead n slots (offer ∷ todo) ahead none = let one = count_of_done slots n offer.reply offer.quiet unposted ahead.0.slot in absurd (omega (arith, one, none))
-
--- where no slot is open, all was offered
-pub all_started : {W : Type 0} (mach : schedule.Machine W) (view : W → Files) (Plain : W → Type 0) {P R : Type 0} (log : P → Option (List LogEvent)) (state : P → Option (schedule.State W)) (lists : R → Option Lists) (first now : P) (ring : R) (room : ℕ) (todo : List Offer) (started : ℕ) (slots : List Slot) (offers : List Offer) (capacity idle idled : ℕ)
-    → (x : Running mach view Plain log state lists first now ring room (all_taken todo) started slots offers capacity idle idled) → AreAhead started slots todo → count_open slots ≡ 0 → started ≡ length offers
-all_started mach view Plain log state lists first now ring room todo started slots offers capacity idle idled x ahead none =
-    let left : length (all_taken todo) ≡ 0 = ap (λ l. length (all_taken l)) (none_ahead started slots todo ahead none) in
-    omega (arith, counts offers x.ms x.l.published (all_taken todo) x.entries, x.started_is, left)
-
 -- an idle partner whose files are told takes at most as many turns as there are offers
 pub prompt_end : {W : Type 0} (mach : schedule.Machine W) (view : W → Files) (Plain : W → Type 0) {P R : Type 0} (log : P → Option (List LogEvent)) (state : P → Option (schedule.State W)) (lists : R → Option Lists) (first now : P) (ring : R) (room : ℕ) (todo : List Taken) (started : ℕ) (slots : List Slot) (offers : List Offer) (capacity idle idled : ℕ)
     → ModelLaws mach view Plain → (x : Running mach view Plain log state lists first now ring room todo started slots offers capacity idle idled) → (a : schedule.State W) → state first ≡ Some a → IsPlainAndIdle Plain a → turns x.ms ≤ length offers
 prompt_end mach view Plain log state lists first now ring room todo started slots offers capacity idle idled laws x a told rests =
     let b = served_some mach a x.ms (state now) (subst (λ o. schedule.IsServed mach o x.ms (state now)) told x.states) in
     let few = laws.world.few true a b.0 x.ms rests.pending b.2 (x.prompt a told rests).1 in
-    omega (arith, few, counts offers x.ms x.l.published todo x.entries)
+    omega (arith, few, counts offers x.ms x.l.published todo x.user.entries)
 
 -- the beginning
 unfoldable pub running_first : {W : Type 0} (mach : schedule.Machine W) (view : W → Files) (Plain : W → Type 0) {P R : Type 0} (log : P → Option (List LogEvent)) (state : P → Option (schedule.State W)) (lists : R → Option Lists) (first : P) (ring : R) (room : ℕ) (todo : List Taken) (started : ℕ) (slots : List Slot) (offers : List Offer) (capacity idle : ℕ)
@@ -555,15 +547,13 @@ running_first mach view Plain log state lists first ring room todo started slots
   told = told;
   calm = calm;
   size = size;
-  entries = ap (λ y. y ++ todo) none ∙ entries;
+  user = subst (λ ts. UserRun offers ts todo [] started slots) (sym none) (user_first offers todo started slots entries begun told_slots);
   busy = tt;
   within = tt;
   few = let n : count_open slots ≤ length offers = subst (λ y. count_open y ≤ length offers) (sym told_slots) (open_few 0 offers []) in let m : idle * (count_open slots + (length offers - 0)) ≤ idle * (2 * length offers) = mul-le-mul_left idle (omega (arith, n)) in omega (arith, m);
   resting = λ z. refl;
-  told_slots = told_slots;
   expected = refl;
   idled_is = refl;
-  started_is = omega (arith, begun, ap length none);
   holds = holds;
   jobs = jobs;
   offered = offered;
@@ -594,10 +584,6 @@ pub if_some : {A : Type 0} (o : Option A) (P : A → Type 0) → ((a : A) → o 
 if_some None P f = tt
 if_some (Some a) P f = f a refl
 
-pub slots_stay : {W : Type 0} (mach : schedule.Machine W) (view : W → Files) (Plain : W → Type 0) {P R : Type 0} (log : P → Option (List LogEvent)) (state : P → Option (schedule.State W)) (lists : R → Option Lists) (first now : P) (ring : R) (room : ℕ) (todo : List Taken) (started : ℕ) (slots : List Slot) (offers : List Offer) (capacity idle idled : ℕ)
-    → Running mach view Plain log state lists first now ring room todo started slots offers capacity idle idled → length slots ≡ length offers
-slots_stay mach view Plain log state lists first now ring room todo started slots offers capacity idle idled x = ap length x.told_slots ∙ slots-length 0 offers (posted x.ms)
-
 pub smaller : (fin : Bool) (o p q r idle : ℕ) → p + cond fin 1 0 ≤ o → r ≡ cond fin 0 (q + 1) → q + 1 ≤ idle → p * (idle + 1) + (idle - r) < o * (idle + 1) + (idle - q)
 smaller true o p q r idle h e w =
     let m : suc p * (idle + 1) ≤ o * (idle + 1) = mul-le-mul_right (idle + 1) (omega arith) in
@@ -615,7 +601,7 @@ idled_below false q r idle e w differs = omega (arith, e, w, differs)
 pub left_by : {W : Type 0} (mach : schedule.Machine W) (view : W → Files) (Plain : W → Type 0) {P R : Type 0} (log : P → Option (List LogEvent)) (state : P → Option (schedule.State W)) (lists : R → Option Lists) (first now : P) (ring : R) (room : ℕ) (todo : List Offer) (started : ℕ) (slots : List Slot) (offers : List Offer) (capacity idle idled : ℕ)
     → (x : Running mach view Plain log state lists first now ring room (all_taken todo) started slots offers capacity idle idled) → count_open slots + untaken (lists ring) (length todo) ≡ left_of (length offers) slots x.ms
 left_by mach view Plain log state lists first now ring room todo started slots offers capacity idle idled x =
-    let all = counts offers x.ms x.l.published (all_taken todo) x.entries in
+    let all = counts offers x.ms x.l.published (all_taken todo) x.user.entries in
     let n = entries-length todo in
     ap (λ o. count_open slots + untaken o (length todo)) x.told ∙ omega (arith, all, n)
 

@@ -1,5 +1,5 @@
 -- What a run tells, from what its rounds did.
-use Rattle.std.proofs.Common.{◌≡◌, ℕ, suc, ◌+◌, ◌*◌, ◌<◌, ◌≤◌, Bool, true, false, List, [], ◌∷◌, ◌++◌, length, map, replicate, drop, IsSome, Result, Ok, Err, Option, Some, None, IfOk, IfErr, IfSome, refl, ap, sym, subst, ◌∙◌, arith}
+use Rattle.std.proofs.Common.{◌≡◌, ℕ, suc, ◌+◌, ◌<◌, ◌≤◌, Bool, true, false, List, [], ◌∷◌, ◌++◌, length, map, replicate, drop, IsSome, Result, Ok, Err, Option, Some, None, IfOk, IfErr, IfSome, refl, ap, sym, subst, ◌∙◌, arith}
 use Rattle.std.specs.List.{AllByRecursion}
 use Rattle.std.proofs.lemmas.List.Elements.{All-from_recursion, recursion_from_All}
 use Rattle.std.proofs.Math.Seq.{drop-append_seam}
@@ -12,7 +12,7 @@ use Rattle.uring_model.specs.declared.jobs.RunFault.{RunFault}
 use Rattle.uring_model.specs.declared.jobs.RunFault.TheVariants as faults
 use Rattle.uring_model.specs.Jobs.{model_job, model_jobs, quiets_of}
 use Rattle.std.proofs.lemmas.List.{length-map}
-use Rattle.uring_model.specs.Replay.{last_unlinked, IsBusy, IsWhole, table}
+use Rattle.uring_model.specs.Replay.{last_unlinked, IsWhole, table}
 use Rattle.uring_model.specs.Moves.{Move, Turned, Took, Posted, Quieted, took, posted, quieted, event_of, journal_of, log_of, IsLogged}
 use Rattle.uring_model.specs.Partner.{job_of, idle}
 use Rattle.uring_model.specs.Partner as filed
@@ -31,13 +31,13 @@ use Rattle.run_loop.specs.declared.slot.Slot.{Slot}
 use Rattle.run_loop.specs.declared.slot.Slot.TheVariants.{Done}
 use Rattle.run_loop.specs.Driven.{Driven, IsGivenUp}
 use Rattle.run_loop.specs.declared.slot.Reply.{Reply}
-use Rattle.run_loop.specs.Entries.{offers_from, all_taken, reply_in, lends_in, lends_at, quiets_in, quiets_at, AllValid, AllInRange}
+use Rattle.run_loop.specs.Entries.{offers_from, all_taken, entries_from, reply_in, lends_in, lends_at, quiets_in, quiets_at, AllValid, AllInRange}
 use Rattle.run_loop.specs.Laws.{ModelLaws}
-use Rattle.run_loop.specs.Memory.{Explains, replayed_outcomes}
+use Rattle.run_loop.specs.Memory.{ExplainsWithin, replayed_outcomes}
 use Rattle.ring_traits.specs.Lists.{Advances}
 use Rattle.run_loop.proofs.Places.{advances_by}
 use Rattle.run_loop.specs.Rounds.{PlacesGoOn, is_partner_fault, is_stall, is_stranger_fault}
-use Rattle.run_loop.specs.Runs.{Ran, RunSays, PlacesRanOn, count_posts, outcomes_from, IsAnswered, IsFaulted}
+use Rattle.run_loop.specs.Runs.{Ran, InFullTurns, RunSays, PlacesRanOn, count_posts, outcomes_from, IsAnswered, IsFaulted, IsReported}
 use Rattle.run_loop.specs.Slots.{count_open, slots_from}
 use Rattle.run_loop.proofs.EntryLemmas.{offers_count}
 use Rattle.run_loop.proofs.Asks.{asks_all, six_all, numbered_all, own_all, replies_first, asks, asks_list}
@@ -47,23 +47,16 @@ use Rattle.run_loop.proofs.Posts.{done_jobs, tells_after, last_is_quiet}
 use Rattle.run_loop.proofs.Running.{nothing_told}
 use Rattle.run_loop.proofs.Quiets.{quiet_at, quiets_jobs, quiets_plain, valid_linked, loud_last, quiets_move_none, quiets_named, are_quiets}
 
--- the run by its jobs
-
-abbrev ran_of : {W : Type 0} (mach : schedule.Machine W) (view : W → Files) (Plain : W → Type 0) {P : Type 0} (log : P → Option (List LogEvent)) (state : P → Option (schedule.State W)) (old new : P) (jobs : List Job) (capacity idle : ℕ) → Driven mach log state old new (offers_from 0 jobs) capacity idle → Ran mach log state old new jobs capacity idle
-ran_of mach view Plain log state old new jobs capacity idle d = record {
-  moves = d.moves;
-  ahead = d.ahead;
-  logs = d.logs;
-  states = d.states;
-  entries = d.entries;
-  busy = subst (λ n. IsBusy capacity n 0 (journal_of (log_of d.moves))) (offers_count 0 jobs) d.busy;
-  within = d.within;
-  few = subst (λ n. turns d.moves ≤ idle * (2 * n)) (offers_count 0 jobs) d.few;
-}
+-- its turns by its jobs
+full_of : (jobs : List Job) (capacity idle : ℕ) (ms : List Move) → InFullTurns capacity (length (offers_from 0 jobs)) idle ms → InFullTurns capacity (length jobs) idle ms
+full_of jobs capacity idle ms full = subst (λ n. InFullTurns capacity n idle ms) (offers_count 0 jobs) full
 
 -- nothing was done
 pub not_driven : {W : Type 0} (mach : schedule.Machine W) (view : W → Files) (Plain : W → Type 0) {P : Type 0} (laws : ModelLaws mach view Plain) (log : P → Option (List LogEvent)) (state : P → Option (schedule.State W)) (p : P) (jobs : List Job) (capacity idle : ℕ) → Driven mach log state p p (offers_from 0 jobs) capacity idle
-not_driven mach view Plain laws log state p jobs capacity idle = record { moves = []; ahead = all_taken (offers_from 0 jobs); logs = laws.stay.logs (log p); states = laws.world.stay (state p); entries = refl; busy = tt; within = tt; few = omega arith }
+not_driven mach view Plain laws log state p jobs capacity idle = record {
+  ran = record { moves = []; ahead = all_taken (offers_from 0 jobs); logs = laws.stay.logs (log p); states = laws.world.stay (state p); entries = refl; within = tt };
+  full = record { busy = tt; few = omega arith };
+}
 
 faulted_of : (jobs : List Job) (idle : ℕ) (log : List LogEvent) (e : RunFault) → IsGivenUp (offers_from 0 jobs) idle log e → IsFaulted jobs idle log e
 faulted_of jobs idle log (faults.Stranger u) h = h
@@ -103,9 +96,9 @@ all_ended : (quiet : ℕ → Bool) (ts : List Taken) → AllByRecursion (λ t. (
 all_ended quiet [] h = tt
 all_ended quiet (t ∷ ts) h = ((λ q. sym h.0 ∙ q), all_ended quiet ts h.1)
 
-pub from_idle : {W : Type 0} (mach : schedule.Machine W) (view : W → Files) (Plain : W → Type 0) {P : Type 0} (laws : ModelLaws mach view Plain) (log : P → Option (List LogEvent)) (state : P → Option (schedule.State W)) (old new : P) (jobs : List Job) (capacity bound : ℕ) (d : Driven mach log state old new (offers_from 0 jobs) capacity bound) → AllValid jobs → AllInRange jobs → (a : schedule.State W) → state old ≡ Some a → IsPlainAndIdle Plain a
+pub from_idle : {W : Type 0} (mach : schedule.Machine W) (view : W → Files) (Plain : W → Type 0) {P : Type 0} (laws : ModelLaws mach view Plain) (log : P → Option (List LogEvent)) (state : P → Option (schedule.State W)) (old new : P) (jobs : List Job) (d : Ran mach log state old new (entries_from 0 jobs)) → AllValid jobs → AllInRange jobs → (a : schedule.State W) → state old ≡ Some a → IsPlainAndIdle Plain a
     → (b : schedule.State W) × (state new ≡ Some b) × FromIdle jobs (viewed view a) (viewed view b) d.moves × Plain b.world
-from_idle mach view Plain laws log state old new jobs capacity bound d valid range a told rests =
+from_idle mach view Plain laws log state old new jobs d valid range a told rests =
     let served = served_some mach a d.moves (state new) (subst (λ o. schedule.IsServed mach o d.moves (state new)) told d.states) in
     let b = served.0 in
     let same_jobs : map job_of (took d.moves ++ d.ahead) ≡ last_unlinked (model_jobs jobs) = ap (map job_of) d.entries ∙ asks_all 0 jobs valid range in
@@ -165,8 +158,8 @@ stranger_not (faults.BadJob n) jobs bound log g h = refl
 some_told : {A : Type 0} (o : Option A) (a : A) (P : A → Type 0) → IfSome o P → o ≡ Some a → P a
 some_told o a P h e = subst (λ x. IfSome x P) e h
 
-fault_explains : {W : Type 0} (view : W → Files) (Plain : W → Type 0) (jobs : List Job) (a b : schedule.State W) (ms : List Move) (e : RunFault) → FromIdle jobs (viewed view a) (viewed view b) ms → is_stranger_fault e ≡ false → is_stall e ≡ false → Explains view Plain (model_jobs jobs) a ms b (Err e)
-fault_explains view Plain jobs a b ms e f honest prompt = record {
+pub fault_explains : {W : Type 0} (view : W → Files) (Plain : W → Type 0) (bound : ℕ) (jobs : List Job) (a b : schedule.State W) (ms : List Move) (e : RunFault) → FromIdle jobs (viewed view a) (viewed view b) ms → is_stranger_fault e ≡ false → is_stall e ≡ false → ExplainsWithin view Plain bound (model_jobs jobs) a ms b (Err e)
+fault_explains view Plain bound jobs a b ms e f honest prompt = record {
   end = f.explained.state;
   replays = f.explained.replays;
   chosen = f.explained.chosen;
@@ -176,15 +169,16 @@ fault_explains view Plain jobs a b ms e f honest prompt = record {
 }
 
 pub says_fault : {W : Type 0} (mach : schedule.Machine W) (view : W → Files) (Plain : W → Type 0) {P : Type 0} (laws : ModelLaws mach view Plain) (log : P → Option (List LogEvent)) (state : P → Option (schedule.State W)) (old new : P) (jobs : List Job) (capacity bound : ℕ) (e : RunFault) → AllValid jobs → AllInRange jobs
-    → (d : Driven mach log state old new (offers_from 0 jobs) capacity bound) → IsGivenUp (offers_from 0 jobs) bound (log_of d.moves) e → IfSome (state old) (λ a. IsPlainAndIdle Plain a → is_stall e ≡ false)
+    → (d : Driven mach log state old new (offers_from 0 jobs) capacity bound) → IsGivenUp (offers_from 0 jobs) bound (log_of d.ran.moves) e → IfSome (state old) (λ a. IsPlainAndIdle Plain a → is_stall e ≡ false)
     → RunSays mach view Plain log state old new jobs capacity bound (Err e)
 says_fault mach view Plain laws log state old new jobs capacity bound e valid range d given stall = record {
-  ran = ran_of mach view Plain log state old new jobs capacity bound d;
+  ran = d.ran;
+  full = full_of jobs capacity bound d.ran.moves d.full;
   report = tt;
-  fault = faulted_of jobs bound (log_of d.moves) e given;
+  fault = faulted_of jobs bound (log_of d.ran.moves) e given;
   memory = λ a told rests.
-      let f = from_idle mach view Plain laws log state old new jobs capacity bound d valid range a told rests in
-      (f.0, f.1, fault_explains view Plain jobs a f.0 d.moves e f.2 (stranger_not e jobs bound (log_of d.moves) given f.2.honest) (some_told (state old) a (λ a. IsPlainAndIdle Plain a → is_stall e ≡ false) stall told rests));
+      let f = from_idle mach view Plain laws log state old new jobs d.ran valid range a told rests in
+      (f.0, f.1, fault_explains view Plain (length (model_jobs jobs)) jobs a f.0 d.ran.moves e f.2 (stranger_not e jobs bound (log_of d.ran.moves) given f.2.honest) (some_told (state old) a (λ a. IsPlainAndIdle Plain a → is_stall e ≡ false) stall told rests));
 }
 
 -- a run that ends well
@@ -209,9 +203,9 @@ answered_by jobs ms os valid none honest slots = record {
   outcomes = outcomes_of_slots jobs ms os slots;
 }
 
-whole_explains : {W : Type 0} (mach : schedule.Machine W) (view : W → Files) (Plain : W → Type 0) (laws : ModelLaws mach view Plain) (jobs : List Job) (a b : schedule.State W) (ms : List Move) (report : Report) → AllValid jobs → FromIdle jobs (viewed view a) (viewed view b) ms → Plain b.world → count_open (slots_from 0 (offers_from 0 jobs) (posted ms)) ≡ 0 → map (λ o. Some o) report.outcomes.items ≡ outcomes_from 0 jobs (log_of ms) → turns ms ≤ length jobs
-    → Explains view Plain (model_jobs jobs) a ms b (Ok report)
-whole_explains mach view Plain laws jobs a b ms report valid f plain none answers few =
+pub whole_explains : {W : Type 0} (mach : schedule.Machine W) (view : W → Files) (Plain : W → Type 0) (laws : ModelLaws mach view Plain) (bound : ℕ) (jobs : List Job) (a b : schedule.State W) (ms : List Move) (report : Report) → AllValid jobs → FromIdle jobs (viewed view a) (viewed view b) ms → Plain b.world → count_open (slots_from 0 (offers_from 0 jobs) (posted ms)) ≡ 0 → map (λ o. Some o) report.outcomes.items ≡ outcomes_from 0 jobs (log_of ms) → turns ms ≤ bound
+    → ExplainsWithin view Plain bound (model_jobs jobs) a ms b (Ok report)
+whole_explains mach view Plain laws bound jobs a b ms report valid f plain none answers few =
     let results = whole_results jobs (viewed view a) (viewed view b) ms f in
     let whole = f.heard (all_heard jobs ms valid none) in
     let set : AllByRecursion IsSome (results_from 0 (length jobs) (posted ms) (quieted ms)) = subst (AllByRecursion IsSome) results (recursion_from_All IsSome (table f.explained.state) (laws.set f.explained.state whole)) in
@@ -226,7 +220,7 @@ whole_explains mach view Plain laws jobs a b ms report valid f plain none answer
         whole = whole;
         outcomes = answers ∙ sym (told_outcomes (replies_at jobs) (quiet_at (quiets_at jobs)) 0 jobs ms (replies_first jobs) quiets (quiets_move_none jobs valid) last f.told f.loud f.quiets set) ∙ ap (replayed_outcomes (model_jobs jobs)) (sym results);
         idle = let r = f.restful whole in record { pending = r.pending; tail = r.tail; plain = plain };
-        few = subst (λ n. turns ms ≤ n) (sym (length-map jobs model_job)) few;
+        few = few;
       };
       fault = tt;
     }
@@ -237,21 +231,31 @@ journal_gain (Some l) p ms start journal h s j =
     let told : journal ≡ map event_of (drop start (l ++ log_of ms)) = subst (λ x. IfSome x (λ l. journal ≡ map event_of (drop start l))) h j in
     told ∙ ap (λ n. map event_of (drop n (l ++ log_of ms))) s ∙ ap (map event_of) (drop-append_seam l (log_of ms))
 
+-- the report of a partner's part of a run
+pub reported : {W : Type 0} (mach : schedule.Machine W) {P : Type 0} (log : P → Option (List LogEvent)) (state : P → Option (schedule.State W)) (old new : P) (jobs : List Job) (report : Report) (start : ℕ) → AllValid jobs → (d : Ran mach log state old new (entries_from 0 jobs))
+    → first_strange (lends_at jobs) (quiets_at jobs) nothing_seen (log_of d.moves) ≡ None → count_open (slots_from 0 (offers_from 0 jobs) (posted d.moves)) ≡ 0 → map (λ o. Done o) report.outcomes.items ≡ slots_from 0 (offers_from 0 jobs) (posted d.moves)
+    → IfSome (log old) (λ l. start ≡ length l) → IfSome (log new) (λ l. report.journal.items ≡ map event_of (drop start l)) → IsReported log old jobs d.moves report
+reported mach log state old new jobs report start valid d honest none slots at journal = record {
+  answered = answered_by jobs d.moves report.outcomes.items valid none honest slots;
+  journal = journal_gain (log old) (log new) d.moves start report.journal.items d.logs at journal;
+}
+
 pub says_report : {W : Type 0} (mach : schedule.Machine W) (view : W → Files) (Plain : W → Type 0) {P : Type 0} (laws : ModelLaws mach view Plain) (log : P → Option (List LogEvent)) (state : P → Option (schedule.State W)) (old new : P) (jobs : List Job) (capacity bound : ℕ) (report : Report) (start : ℕ) → AllValid jobs → AllInRange jobs
-    → (d : Driven mach log state old new (offers_from 0 jobs) capacity bound) → first_strange (lends_in (offers_from 0 jobs)) (quiets_in (offers_from 0 jobs)) nothing_seen (log_of d.moves) ≡ None
-    → count_open (slots_from 0 (offers_from 0 jobs) (posted d.moves)) ≡ 0 → map (λ o. Done o) report.outcomes.items ≡ slots_from 0 (offers_from 0 jobs) (posted d.moves)
+    → (d : Driven mach log state old new (offers_from 0 jobs) capacity bound) → first_strange (lends_in (offers_from 0 jobs)) (quiets_in (offers_from 0 jobs)) nothing_seen (log_of d.ran.moves) ≡ None
+    → count_open (slots_from 0 (offers_from 0 jobs) (posted d.ran.moves)) ≡ 0 → map (λ o. Done o) report.outcomes.items ≡ slots_from 0 (offers_from 0 jobs) (posted d.ran.moves)
     → IfSome (log old) (λ l. start ≡ length l) → IfSome (log new) (λ l. report.journal.items ≡ map event_of (drop start l))
-    → ((a : schedule.State W) → state old ≡ Some a → IsPlainAndIdle Plain a → turns d.moves ≤ length (offers_from 0 jobs))
+    → ((a : schedule.State W) → state old ≡ Some a → IsPlainAndIdle Plain a → turns d.ran.moves ≤ length (offers_from 0 jobs))
     → RunSays mach view Plain log state old new jobs capacity bound (Ok report)
 says_report mach view Plain laws log state old new jobs capacity bound report start valid range d honest none slots at journal few =
-    let answered = answered_by jobs d.moves report.outcomes.items valid none honest slots in
+    let told = reported mach log state old new jobs report start valid d.ran honest none slots at journal in
     record {
-      ran = ran_of mach view Plain log state old new jobs capacity bound d;
-      report = record { answered = answered; journal = journal_gain (log old) (log new) d.moves start report.journal.items d.logs at journal };
+      ran = d.ran;
+      full = full_of jobs capacity bound d.ran.moves d.full;
+      report = told;
       fault = tt;
-      memory = λ a told rests.
-          let f = from_idle mach view Plain laws log state old new jobs capacity bound d valid range a told rests in
-          (f.0, f.1, whole_explains mach view Plain laws jobs a f.0 d.moves report valid f.2 f.3 none answered.outcomes (subst (λ n. turns d.moves ≤ n) (offers_count 0 jobs) (few a told rests)));
+      memory = λ a is rests.
+          let f = from_idle mach view Plain laws log state old new jobs d.ran valid range a is rests in
+          (f.0, f.1, whole_explains mach view Plain laws (length (model_jobs jobs)) jobs a f.0 d.ran.moves report valid f.2 f.3 none told.answered.outcomes (subst (λ n. turns d.ran.moves ≤ n) (offers_count 0 jobs ∙ sym (length-map jobs model_job)) (few a is rests)));
     }
 
 pub not_stalled : {W : Type 0} (Plain : W → Type 0) (o : Option (schedule.State W)) → IfSome o (λ a. IsPlainAndIdle Plain a → is_stall faults.NoMemory ≡ false)
@@ -259,7 +263,7 @@ not_stalled Plain None = tt
 not_stalled Plain (Some a) = λ h. refl
 
 told_either : {W : Type 0} (mach : schedule.Machine W) (view : W → Files) (Plain : W → Type 0) {P : Type 0} (laws : ModelLaws mach view Plain) (log : P → Option (List LogEvent)) (state : P → Option (schedule.State W)) (old new : P) (jobs : List Job) (capacity bound : ℕ) (start : ℕ) (slots : List Slot) (r : Result Report RunFault) → AllValid jobs → AllInRange jobs
-    → (d : Driven mach log state old new (offers_from 0 jobs) capacity bound) → count_open slots ≡ 0 → slots ≡ slots_from 0 (offers_from 0 jobs) (posted d.moves) → first_strange (lends_in (offers_from 0 jobs)) (quiets_in (offers_from 0 jobs)) nothing_seen (log_of d.moves) ≡ None → ((a : schedule.State W) → state old ≡ Some a → IsPlainAndIdle Plain a → turns d.moves ≤ length (offers_from 0 jobs))
+    → (d : Driven mach log state old new (offers_from 0 jobs) capacity bound) → count_open slots ≡ 0 → slots ≡ slots_from 0 (offers_from 0 jobs) (posted d.ran.moves) → first_strange (lends_in (offers_from 0 jobs)) (quiets_in (offers_from 0 jobs)) nothing_seen (log_of d.ran.moves) ≡ None → ((a : schedule.State W) → state old ≡ Some a → IsPlainAndIdle Plain a → turns d.ran.moves ≤ length (offers_from 0 jobs))
     → IfOk r (λ report. map (λ o. Done o) report.outcomes.items ≡ slots) → IfOk r (λ report. IfSome (log new) (λ l. report.journal.items ≡ map event_of (drop start l))) → IfErr r (λ e. e ≡ faults.NoMemory) → IfSome (log old) (λ l. start ≡ length l)
     → RunSays mach view Plain log state old new jobs capacity bound r
 told_either mach view Plain laws log state old new jobs capacity bound start slots (Ok report) valid range d none told honest few outcomes journal err at =
@@ -269,13 +273,13 @@ told_either mach view Plain laws log state old new jobs capacity bound start slo
 
 -- what a run tells by its report, or by want of memory for it
 pub says_either : {W : Type 0} (mach : schedule.Machine W) (view : W → Files) (Plain : W → Type 0) {P : Type 0} (laws : ModelLaws mach view Plain) (log : P → Option (List LogEvent)) (state : P → Option (schedule.State W)) (old new : P) (jobs : List Job) (capacity bound : ℕ) (start : ℕ) (slots : List Slot) (offers : List Offer) (r : Result Report RunFault) → AllValid jobs → AllInRange jobs → offers ≡ offers_from 0 jobs
-    → ((d : Driven mach log state old new offers capacity bound) × ((count_open slots ≡ 0) × (slots ≡ slots_from 0 offers (posted d.moves)) × (first_strange (lends_in offers) (quiets_in offers) nothing_seen (log_of d.moves) ≡ None) × ((a : schedule.State W) → state old ≡ Some a → IsPlainAndIdle Plain a → turns d.moves ≤ length offers)))
+    → ((d : Driven mach log state old new offers capacity bound) × ((count_open slots ≡ 0) × (slots ≡ slots_from 0 offers (posted d.ran.moves)) × (first_strange (lends_in offers) (quiets_in offers) nothing_seen (log_of d.ran.moves) ≡ None) × ((a : schedule.State W) → state old ≡ Some a → IsPlainAndIdle Plain a → turns d.ran.moves ≤ length offers)))
     → IfOk r (λ report. map (λ o. Done o) report.outcomes.items ≡ slots) → IfOk r (λ report. IfSome (log new) (λ l. report.journal.items ≡ map event_of (drop start l))) → IfErr r (λ e. e ≡ faults.NoMemory)
     → IfSome (log old) (λ l. start ≡ length l)
     → RunSays mach view Plain log state old new jobs capacity bound r
 says_either {W = W} mach view Plain laws log state old new jobs capacity bound start slots offers r valid range same run outcomes journal err at =
-    let whole : (d : Driven mach log state old new (offers_from 0 jobs) capacity bound) × ((count_open slots ≡ 0) × (slots ≡ slots_from 0 (offers_from 0 jobs) (posted d.moves)) × (first_strange (lends_in (offers_from 0 jobs)) (quiets_in (offers_from 0 jobs)) nothing_seen (log_of d.moves) ≡ None) × ((a : schedule.State W) → state old ≡ Some a → IsPlainAndIdle Plain a → turns d.moves ≤ length (offers_from 0 jobs))) =
-    subst (λ o. (d : Driven mach log state old new o capacity bound) × ((count_open slots ≡ 0) × (slots ≡ slots_from 0 o (posted d.moves)) × (first_strange (lends_in o) (quiets_in o) nothing_seen (log_of d.moves) ≡ None) × ((a : schedule.State W) → state old ≡ Some a → IsPlainAndIdle Plain a → turns d.moves ≤ length o))) same run in
+    let whole : (d : Driven mach log state old new (offers_from 0 jobs) capacity bound) × ((count_open slots ≡ 0) × (slots ≡ slots_from 0 (offers_from 0 jobs) (posted d.ran.moves)) × (first_strange (lends_in (offers_from 0 jobs)) (quiets_in (offers_from 0 jobs)) nothing_seen (log_of d.ran.moves) ≡ None) × ((a : schedule.State W) → state old ≡ Some a → IsPlainAndIdle Plain a → turns d.ran.moves ≤ length (offers_from 0 jobs))) =
+    subst (λ o. (d : Driven mach log state old new o capacity bound) × ((count_open slots ≡ 0) × (slots ≡ slots_from 0 o (posted d.ran.moves)) × (first_strange (lends_in o) (quiets_in o) nothing_seen (log_of d.ran.moves) ≡ None) × ((a : schedule.State W) → state old ≡ Some a → IsPlainAndIdle Plain a → turns d.ran.moves ≤ length o))) same run in
     told_either mach view Plain laws log state old new jobs capacity bound start slots r valid range whole.0 whole.1.0 whole.1.1 whole.1.2 whole.1.3 outcomes journal err at
 
 -- the log's length is where its gain begins

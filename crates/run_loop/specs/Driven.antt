@@ -1,28 +1,18 @@
 -- What the rounds of a run do over every partner, by the offers.
-use Rattle.std.specs.Prelude.{◌≡◌, ℕ, false, ◌*◌, ◌≤◌, ◌<◌, List, ◌++◌, length, Option, Some}
-use Rattle.uring_base.specs.declared.events.Taken.{Taken}
+use Rattle.std.specs.Prelude.{◌≡◌, ℕ, false, ◌≤◌, ◌<◌, List, length, Option, Some}
 use Rattle.uring_base.specs.declared.events.LogEvent.{LogEvent}
 use Rattle.uring_model.specs.declared.jobs.RunFault.{RunFault}
 use Rattle.uring_model.specs.declared.jobs.RunFault.TheVariants.{BadSize, BadJob, Stranger, Stalled, PartnerFault, NoMemory}
-use Rattle.uring_model.specs.Replay.{IsBusy}
-use Rattle.uring_model.specs.Moves.{Move, took, journal_of, log_of, IsLogged}
 use Rattle.uring_model.specs.Schedule as schedule
-use Rattle.uring_model.specs.Progress.{turns}
-use Rattle.uring_model.specs.Honest.{TakesWithinTurns}
 use Rattle.uring_model.specs.Strange.{nothing_seen, first_strange, is_answered, ended_in}
 use Rattle.run_loop.specs.declared.entries.Offer.{Offer}
 use Rattle.run_loop.specs.Entries.{all_taken, lends_in, quiets_in}
 use Rattle.run_loop.specs.Told.{idle_turns}
+use Rattle.run_loop.specs.Runs.{Ran, InFullTurns}
 
 pub record Driven {W : Type 0} (mach : schedule.Machine W) {P : Type 0} (log : P → Option (List LogEvent)) (state : P → Option (schedule.State W)) (old new : P) (offers : List Offer) (capacity idle : ℕ) : Type 0 where
-  pub moves : List Move
-  pub ahead : List Taken
-  pub logs : IsLogged (log old) moves (log new)
-  pub states : schedule.IsServed mach (state old) moves (state new)
-  pub entries : took moves ++ ahead ≡ all_taken offers
-  pub busy : IsBusy capacity (length offers) 0 (journal_of (log_of moves))
-  pub within : TakesWithinTurns 0 moves
-  pub few : turns moves ≤ idle * (2 * length offers)
+  pub ran : Ran mach log state old new (all_taken offers)
+  pub full : InFullTurns capacity (length offers) idle ran.moves
 
 -- Some offer isn't answered, and neither a take nor a final post stands behind the last `idle` turns.
 pub record IsOpenJob (offers : List Offer) (idle : ℕ) (log : List LogEvent) : Type 0 where

@@ -6,6 +6,7 @@ pub mod JobOps
 pub mod Flights
 pub mod Steps
 pub mod Rounds
-pub mod Driven
+pub mod UserRounds
 pub mod Memory
 pub mod Runs
+pub mod Driven

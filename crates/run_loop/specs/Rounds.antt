@@ -78,15 +78,21 @@ is_refusal NoMemory = false
 abbrev pub goes_on : List Taken → List Completion → Bool
 goes_on ts cs = nat_lt 0 (length ts) || any_final cs
 
--- how a round ends, by the entries that were taken and the completions that stood in the ring
-abbrev pub RoundEnds : ℕ → List Slot → List Taken → List Completion → List Slot → Bool → Result Bool RunFault → Type 0
-RoundEnds started slots ts cs slots' entered (Ok went) = (entered ≡ true) × (stranger_among started slots cs ≡ None) × (slots' ≡ land_all slots cs) × (went ≡ goes_on ts cs)
-RoundEnds started slots ts cs slots' entered (Err (Stranger u)) = (entered ≡ true) × (stranger_among started slots cs ≡ Some u)
-RoundEnds started slots ts cs slots' entered (Err PartnerFault) = Unit {0}
-RoundEnds started slots ts cs slots' entered (Err NoMemory) = Unit {0}
-RoundEnds started slots ts cs slots' entered (Err BadSize) = ⊥
-RoundEnds started slots ts cs slots' entered (Err (BadJob n)) = ⊥
-RoundEnds started slots ts cs slots' entered (Err Stalled) = ⊥
+-- how a round ends, by the completions that it reaped: none was strange, and they land in the slots; or it ended at the first
+-- strange one
+abbrev pub ReapEnds : ℕ → List Slot → List Completion → List Slot → Result Bool RunFault → Type 0
+ReapEnds started slots cs slots' (Ok went) = (stranger_among started slots cs ≡ None) × (slots' ≡ land_all slots cs)
+ReapEnds started slots cs slots' (Err (Stranger u)) = stranger_among started slots cs ≡ Some u
+ReapEnds started slots cs slots' (Err PartnerFault) = Unit {0}
+ReapEnds started slots cs slots' (Err NoMemory) = Unit {0}
+ReapEnds started slots cs slots' (Err BadSize) = ⊥
+ReapEnds started slots cs slots' (Err (BadJob n)) = ⊥
+ReapEnds started slots cs slots' (Err Stalled) = ⊥
+
+-- a round that ends well, or at a stranger, entered; and where it ends well it tells whether it was idle
+abbrev pub IsEntered : List Taken → List Completion → Bool → Result Bool RunFault → Type 0
+IsEntered ts cs entered (Ok went) = (entered ≡ true) × (went ≡ goes_on ts cs)
+IsEntered ts cs entered (Err fault) = is_stranger_fault fault ≡ true → entered ≡ true
 
 -- A round offers entries until the ring is full or none is left, publishes, enters once, over all that is published, and
 -- reaps all that was posted.
@@ -113,4 +119,5 @@ pub record Round {W : Type 0} (mach : schedule.Machine W) {P R : Type 0} (log : 
   pub pushed : after.pushed ≡ []
   pub capacity : after.capacity ≡ at.capacity
   pub completion_capacity : after.completion_capacity ≡ at.completion_capacity
-  pub ends : RoundEnds started slots (took ms) (map kept (posted ms)) slots' entered answer
+  pub enters : IsEntered (took ms) (map kept (posted ms)) entered answer
+  pub ends : ReapEnds started slots (map kept (posted ms)) slots' answer

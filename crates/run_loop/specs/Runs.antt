@@ -25,18 +25,20 @@ use Rattle.run_loop.specs.Entries.{entries_from, lends_at, quiets_at, first_bad}
 use Rattle.run_loop.specs.Memory.{Explains}
 use Rattle.run_loop.specs.Told.{first_final, idle_turns, reply_for, outcome_by, first_is_some}
 
--- What the partner did in a run, whatever its answer: `moves` are what its log and its state gained, where it tells them.
--- It took the jobs' entries in their order; each turn began with the ring full or all jobs pushed, and took no more
--- than its number; and there were at most `idle` turns twice a job.
-pub record Ran {W : Type 0} (mach : schedule.Machine W) {P : Type 0} (log : P → Option (List LogEvent)) (state : P → Option (schedule.State W)) (old new : P) (jobs : List Job) (capacity idle : ℕ) : Type 0 where
+-- What the partner did in a run, whatever its answer, and whenever its turns came: `moves` are what its log and its state
+-- gained, where it tells them. It took the entries in their order, and in each turn no more than its number.
+pub record Ran {W : Type 0} (mach : schedule.Machine W) {P : Type 0} (log : P → Option (List LogEvent)) (state : P → Option (schedule.State W)) (old new : P) (offered : List Taken) : Type 0 where
   pub moves : List Move
   pub ahead : List Taken
   pub logs : IsLogged (log old) moves (log new)
   pub states : schedule.IsServed mach (state old) moves (state new)
-  pub entries : took moves ++ ahead ≡ entries_from 0 jobs
-  pub busy : IsBusy capacity (length jobs) 0 (journal_of (log_of moves))
+  pub entries : took moves ++ ahead ≡ offered
   pub within : TakesWithinTurns 0 moves
-  pub few : turns moves ≤ idle * (2 * length jobs)
+
+-- When the turns of a run came: each with the ring full or all jobs pushed, and at most `idle` turns twice a job.
+pub record InFullTurns (capacity jobs idle : ℕ) (moves : List Move) : Type 0 where
+  pub busy : IsBusy capacity jobs 0 (journal_of (log_of moves))
+  pub few : turns moves ≤ idle * (2 * jobs)
 
 -- what the first final posts tell of the jobs, counted from n: those of its own, and, of a quiet one without, that of the next
 abbrev pub outcomes_from : ℕ → List Job → List LogEvent → List (Option Outcome)
@@ -72,7 +74,8 @@ pub record IsReported {P : Type 0} (log : P → Option (List LogEvent)) (old : P
 
 -- what a run of valid sizes and jobs did, and what its answer tells
 pub record RunSays {W : Type 0} (mach : schedule.Machine W) (view : W → Files) (Plain : W → Type 0) {P : Type 0} (log : P → Option (List LogEvent)) (state : P → Option (schedule.State W)) (old new : P) (jobs : List Job) (capacity idle : ℕ) (result : Result Report RunFault) : Type 0 where
-  pub ran : Ran mach log state old new jobs capacity idle
+  pub ran : Ran mach log state old new (entries_from 0 jobs)
+  pub full : InFullTurns capacity (length jobs) idle ran.moves
   pub report : IfOk result (IsReported log old jobs ran.moves)
   pub fault : IfErr result (IsFaulted jobs idle (log_of ran.moves))
   -- over a partner that tells its files and began idle

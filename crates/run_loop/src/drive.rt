@@ -51,10 +51,10 @@ pub fn drive<R: UserEnds + PartnerSide, P: Partner>(
     requires settled { IsSettled engine.old.ops table.old.started table.old.slots.items table.old.in_flight.items todo.old }
     ensures run { (r : Driven P.machine P.log P.state partner.old partner.new todo.old (R.entries_fit engine.old.ring) idle)
         × MatchResult result
-        (λ _. (count_open table.new.slots.items ≡ 0) × (table.new.slots.items ≡ slots_from 0 todo.old (posted r.moves)) × (first_strange (lends_in todo.old) (quiets_in todo.old) nothing_seen (log_of r.moves) ≡ None)
-        × ((a : State P.World) → P.state partner.old ≡ Some a → IsPlainAndIdle P.Plain a → turns r.moves ≤ length todo.old)
-        × PlacesGoOn R.offer_place R.reap_place engine.old.ring engine.new.ring (length todo.old) (length (posted r.moves)))
-        (λ e. IsGivenUp todo.old idle (log_of r.moves) e) }
+        (λ _. (count_open table.new.slots.items ≡ 0) × (table.new.slots.items ≡ slots_from 0 todo.old (posted r.ran.moves)) × (first_strange (lends_in todo.old) (quiets_in todo.old) nothing_seen (log_of r.ran.moves) ≡ None)
+        × ((a : State P.World) → P.state partner.old ≡ Some a → IsPlainAndIdle P.Plain a → turns r.ran.moves ≤ length todo.old)
+        × PlacesGoOn R.offer_place R.reap_place engine.old.ring engine.new.ring (length todo.old) (length (posted r.ran.moves)))
+        (λ e. IsGivenUp todo.old idle (log_of r.ran.moves) e) }
     ensures cause { HasCause is_partner_fault (P.faults partner.old) (P.faults partner.new) result }
     ensures unplanned { IfSome (P.state partner.old) (λ _. P.plan partner.old ≡ [] → IfErr result (λ e. is_partner_fault e ≡ false)) }
     ensures plan { P.plan partner.old ≡ [] → P.plan partner.new ≡ [] }

@@ -111,6 +111,7 @@ impl JobTable {
         ensures uses { R.used engine.old.ring [] [] engine.new.ring }
         ensures lists { R.lists engine.new.ring ≡ R.lists engine.old.ring }
         ensures room { R.room engine.new.ring ≡ R.room engine.old.ring }
+        ensures waiting { R.waiting engine.new.ring ≡ R.waiting engine.old.ring }
         ensures ops { engine.new.ops ≡ taken_out flight.job engine.old.ops }
         ensures slots { self.new.slots.items ≡ with_polled (reply_of flight.op) flight.job (polled engine.old.ops flight.job) self.old.slots.items }
         ensures started { self.new.started ≡ self.old.started }
@@ -136,6 +137,7 @@ impl JobTable {
         ensures uses { R.used engine.old.ring [] [] engine.new.ring }
         ensures lists { R.lists engine.new.ring ≡ R.lists engine.old.ring }
         ensures room { R.room engine.new.ring ≡ R.room engine.old.ring }
+        ensures waiting { R.waiting engine.new.ring ≡ R.waiting engine.old.ring }
         ensures started { self.new.started ≡ self.old.started }
         ensures slots { OnOk result (self.new.slots.items ≡ all_polled engine.old.ops self.old.slots.items) }
         ensures operated { OnOk result (AreOperated engine.new.ops self.new.started self.new.slots.items (jobs_in_flight self.new.in_flight.items)) }

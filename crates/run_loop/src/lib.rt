@@ -13,6 +13,7 @@ mod round;
 mod run;
 mod slot;
 mod starts;
+mod user_rounds;
 
 pub use entries::first_bad_job;
 pub use run::{run_jobs, run_on};

@@ -53,7 +53,7 @@ fn start<R: UserEnds>(
 }
 
 /// Starts jobs until the ring is full or none is left.
-fn start_some<R: UserEnds>(
+pub fn start_some<R: UserEnds>(
     alloc: Global,
     engine: &mut Engine<R>,
     todo: &mut OfferQueue,
@@ -82,7 +82,8 @@ fn start_some<R: UserEnds>(
     Ok(())
 }
 
-fn as_run_fault(fault: EngineFault) -> RunFault
+/// The fault of a run, by an engine's.
+pub fn as_run_fault(fault: EngineFault) -> RunFault
     ensures { result ≡ engine_fault fault }
 {
     match fault {

@@ -14,7 +14,8 @@ use Rattle.run_loop.specs.declared.slot.Slot.{Slot}
 use Rattle.run_loop.specs.Slots.{count_open}
 use Rattle.run_loop.specs.Driven.{Driven, IsGivenUp}
 use Rattle.run_loop.proofs.Posts.{slots-length}
-use Rattle.run_loop.proofs.Running.{Running, few_open, running_first, running_next, running_ran, next_faulted, next_smaller, prompt_end, stalled_end, whole_end, some_open, left_open, if_some, slots_stay, smaller, idled_below, next_of, started_more, all_started, next_moves}
+use Rattle.run_loop.proofs.UserLemmas.{user_started, user_slots}
+use Rattle.run_loop.proofs.Running.{Running, few_open, running_first, running_next, running_ran, next_faulted, next_smaller, prompt_end, stalled_end, whole_end, some_open, left_open, if_some, smaller, idled_below, next_of, started_more, next_moves}
 use Rattle.run_loop.proofs.Places.{advances_none, advances_by, places_then}
 use Rattle.run_loop.proofs.drive.drive.Goals as goal
 
@@ -46,11 +47,11 @@ rounds-init g c =
 
 -- no start, since memory lacked: the run so far
 unserved : {W : Type 0} (mach : schedule.Machine W) (view : W → Files) (Plain : W → Type 0) {P R : Type 0} (log : P → Option (List LogEvent)) (state : P → Option (schedule.State W)) (lists : R → Option Lists) (first now new : P) (ring : R) (room : ℕ) (todo : List Taken) (started : ℕ) (slots : List Slot) (offers : List Offer) (capacity idle idled : ℕ) (e : RunFault)
-    → Running mach view Plain log state lists first now ring room todo started slots offers capacity idle idled → 0 < count_open slots → idled < idle → (e ≡ faults.NoMemory) × (new ≡ now) → (r : Driven mach log state first new offers capacity idle) × IsGivenUp offers idle (log_of r.moves) e
+    → Running mach view Plain log state lists first now ring room todo started slots offers capacity idle idled → 0 < count_open slots → idled < idle → (e ≡ faults.NoMemory) × (new ≡ now) → (r : Driven mach log state first new offers capacity idle) × IsGivenUp offers idle (log_of r.ran.moves) e
 unserved mach view Plain log state lists first now new ring room todo started slots offers capacity idle idled e run left waits h =
     let few = few_open mach view Plain log state lists first now ring room todo started slots offers capacity idle idled run left waits in
     let driven : Driven mach log state first now offers capacity idle = running_ran mach view Plain log state lists first now ring room todo started slots offers capacity idle idled run few in
-    subst (λ n. (r : Driven mach log state first n offers capacity idle) × IsGivenUp offers idle (log_of r.moves) e) (sym h.1) (driven, subst (IsGivenUp offers idle (log_of driven.moves)) (sym h.0) tt)
+    subst (λ n. (r : Driven mach log state first n offers capacity idle) × IsGivenUp offers idle (log_of r.ran.moves) e) (sym h.1) (driven, subst (IsGivenUp offers idle (log_of driven.ran.moves)) (sym h.0) tt)
 
 pub returns-in_err-went-clause-run : goal.returns-in_err-went-clause-run
 returns-in_err-went-clause-run g c =
@@ -58,11 +59,11 @@ returns-in_err-went-clause-run g c =
     let d = c.in_err-went.ensures in
     let p = err_from_is_err_and c.from_residual.result c.from_residual.ensures.1 in
     let left = some_open _ _ c.is_whole.ensures.1 c.rounds-test.true in
-    let n : (r : Driven g.P.Partner.machine g.P.Partner.log g.P.Partner.state c.args.partner.now c.round.new.partner c.args.todo.now (g.R.UserEnds.entries_fit c.args.engine.now.ring) c.args.idle) × IsGivenUp c.args.todo.now c.args.idle (log_of r.moves) c.in_err-went.field-0.0 = elim d.err [
+    let n : (r : Driven g.P.Partner.machine g.P.Partner.log g.P.Partner.state c.args.partner.now c.round.new.partner c.args.todo.now (g.R.UserEnds.entries_fit c.args.engine.now.ring) c.args.idle) × IsGivenUp c.args.todo.now c.args.idle (log_of r.ran.moves) c.in_err-went.field-0.0 = elim d.err [
       | inl h ↦ unserved _ _ _ _ _ _ _ _ _ _ _ _ _ _ c.args.todo.now _ _ _ _ s.0 left s.1 h
       | inr h ↦ next_faulted _ _ _ _ _ _ _ _ _ _ _ _ _ _ _ _ _ _ _ c.args.todo.now _ _ _ _ (next_of _ _ _ _ _ _ _ _ _ _ _ _ _ _ _ _ _ _ _ c.args.todo.now _ _ _ _ c.model_laws.ensures s.0 h.0 g.R.Rings.keeps h.1 left s.1)
     ] in
-    (n.0, rw p.1 (subst (λ e. IsGivenUp c.args.todo.now c.args.idle (log_of n.0.moves) e) (sym p.2) n.1))
+    (n.0, rw p.1 (subst (λ e. IsGivenUp c.args.todo.now c.args.idle (log_of n.0.ran.moves) e) (sym p.2) n.1))
 
 pub returns-in_err-went-clause-calm : goal.returns-in_err-went-clause-calm
 returns-in_err-went-clause-calm g c =
@@ -104,8 +105,8 @@ rounds-preserved g c =
     let d = c.in_ok-went.ensures in
     let x = next_of _ _ _ _ _ _ _ _ _ _ _ _ _ _ _ _ _ _ _ c.args.todo.now _ _ _ _ c.model_laws.ensures s.0 d.round.0 g.R.Rings.keeps d.inside (some_open _ _ c.is_whole.ensures.1 c.rounds-test.true) s.1 in
     let y = running_next _ _ _ _ _ _ _ _ _ _ _ _ _ _ _ _ _ _ _ c.args.todo.now _ _ _ _ _ c.idle_after-idled.result x d.calm c.idle_after-idled.ensures in
-    let before = slots_stay _ _ _ _ _ _ _ _ _ _ _ _ _ c.args.todo.now _ _ _ s.0 in
-    let after = slots_stay _ _ _ _ _ _ _ _ _ _ _ _ _ c.args.todo.now _ _ _ y in (
+    let before = user_slots _ _ _ _ _ _ s.0.user in
+    let after = user_slots _ _ _ _ _ _ y.user in (
       y,
       idled_below c.in_ok-went.went _ _ _ c.idle_after-idled.ensures (omega (arith, s.1)) c.if-idled-idle.false,
       omega (arith, before, after, s.2, d.inside),
@@ -120,4 +121,4 @@ pub returns-clause-run : goal.returns-clause-run
 returns-clause-run g c =
     let s = c.rounds.invariant in
     let none = c.is_whole.ensures.0 c.rounds-test.false in
-    (running_ran _ _ _ _ _ _ _ _ _ _ _ _ _ c.args.todo.now _ _ _ s.0 (whole_end _ _ _ _ _ _ _ _ _ _ _ _ _ c.args.todo.now _ _ _ s.0 none), (none, s.0.told_slots, s.0.expected, (λ a told idle. prompt_end _ _ _ _ _ _ _ _ _ _ _ _ _ c.args.todo.now _ _ _ c.model_laws.ensures s.0 a told idle), (advances_by _ _ _ _ (all_started _ _ _ _ _ _ _ _ _ _ _ _ _ c.args.todo.now _ _ _ s.0 s.5.ahead none) s.7.0, s.7.1)))
+    (running_ran _ _ _ _ _ _ _ _ _ _ _ _ _ c.args.todo.now _ _ _ s.0 (whole_end _ _ _ _ _ _ _ _ _ _ _ _ _ c.args.todo.now _ _ _ s.0 none), (none, s.0.user.told_slots, s.0.expected, (λ a told idle. prompt_end _ _ _ _ _ _ _ _ _ _ _ _ _ c.args.todo.now _ _ _ c.model_laws.ensures s.0 a told idle), (advances_by _ _ _ _ (user_started _ _ _ _ _ _ s.0.user s.5.ahead none) s.7.0, s.7.1)))

@@ -31,8 +31,8 @@ pub returns-in_err-drive-clause-says : goal.returns-in_err-drive-clause-says
 returns-in_err-drive-clause-says g c =
     let d = c.in_err-drive.ensures in
     let p = err_from_is_err_and c.from_residual.result c.from_residual.ensures.1 in
-    let run = subst (λ o. (r : Driven g.P.Partner.machine g.P.Partner.log g.P.Partner.state c.args.partner.now c.drive.new.partner o (g.R.UserEnds.entries_fit c.args.ring) c.args.idle) × IsGivenUp o c.args.idle (log_of r.moves) c.in_err-drive.field-0.0) c.new-todo.ensures
-    (subst (λ x. (r : Driven g.P.Partner.machine g.P.Partner.log g.P.Partner.state c.args.partner.now c.drive.new.partner c.new-todo.result (g.R.UserEnds.entries_fit x) c.args.idle) × IsGivenUp c.new-todo.result c.args.idle (log_of r.moves) c.in_err-drive.field-0.0) c.new-engine.ensures.ring d.run) in
+    let run = subst (λ o. (r : Driven g.P.Partner.machine g.P.Partner.log g.P.Partner.state c.args.partner.now c.drive.new.partner o (g.R.UserEnds.entries_fit c.args.ring) c.args.idle) × IsGivenUp o c.args.idle (log_of r.ran.moves) c.in_err-drive.field-0.0) c.new-todo.ensures
+    (subst (λ x. (r : Driven g.P.Partner.machine g.P.Partner.log g.P.Partner.state c.args.partner.now c.drive.new.partner c.new-todo.result (g.R.UserEnds.entries_fit x) c.args.idle) × IsGivenUp c.new-todo.result c.args.idle (log_of r.ran.moves) c.in_err-drive.field-0.0) c.new-engine.ensures.ring d.run) in
     rw p.1 (subst (λ e. RunSays g.P.Partner.machine g.P.Partner.view g.P.Partner.Plain g.P.Partner.log g.P.Partner.state c.args.partner.now c.drive.new.partner c.args.jobs.items (g.R.UserEnds.entries_fit c.args.ring) c.args.idle (Err e)) (sym p.2)
     (says_fault _ _ _ c.model_laws.ensures _ _ _ _ c.args.jobs.items _ _ c.in_err-drive.field-0.0 c.requires.valid c.requires.in_range run.0 run.1 d.unstalled))
 
@@ -66,5 +66,5 @@ pub returns-clause-places : goal.returns-clause-places
 returns-clause-places g c =
     let d = c.in_ok-drive.ensures in
     subst (λ ring. PlacesRanOn g.R.Rings.offer_place g.R.Rings.reap_place g.P.Partner.log c.args.partner.now c.args.ring ring (length c.args.jobs.items) c.in_ok-report.report.journal.items) (sym c.into_ring.ensures)
-    (places_ran g.R.Rings.offer_place g.R.Rings.reap_place g.P.Partner.log c.args.partner.now c.drive.new.partner c.args.ring _ c.args.jobs.items _ d.run.0.moves c.log_len-start.result c.in_ok-report.report.journal.items c.new-todo.ensures
-    (subst (λ x. PlacesGoOn g.R.Rings.offer_place g.R.Rings.reap_place x c.drive.new.engine.ring (length c.new-todo.result) (length (posted d.run.0.moves))) c.new-engine.ensures.ring d.run.1.4) d.run.0.logs (gain_at _ _ _ c.log_len-start.ensures (g.met.P.Partner.counts_log c.args.partner.now)) c.in_ok-report.ensures.journal)
+    (places_ran g.R.Rings.offer_place g.R.Rings.reap_place g.P.Partner.log c.args.partner.now c.drive.new.partner c.args.ring _ c.args.jobs.items _ d.run.0.ran.moves c.log_len-start.result c.in_ok-report.report.journal.items c.new-todo.ensures
+    (subst (λ x. PlacesGoOn g.R.Rings.offer_place g.R.Rings.reap_place x c.drive.new.engine.ring (length c.new-todo.result) (length (posted d.run.0.ran.moves))) c.new-engine.ensures.ring d.run.1.4) d.run.0.ran.logs (gain_at _ _ _ c.log_len-start.ensures (g.met.P.Partner.counts_log c.args.partner.now)) c.in_ok-report.ensures.journal)

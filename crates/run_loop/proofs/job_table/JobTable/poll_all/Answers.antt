@@ -24,6 +24,7 @@ loop-left-init g c =
       c.requires.replied,
       refl,
       g.met.R.UserEnds.used_none c.args.engine.now.ring,
+      refl,
     )
 
 pub poll_one-requires-clause-polls : goal.poll_one-requires-clause-polls
@@ -56,6 +57,7 @@ loop-left-preserved g c =
       replied_next c.loop-left.self.slots.items c.poll_one.new.self.slots.items c.loop-left.self.in_flight.items c.in-Some.flight c.pop_front.new.self.items c.poll_one.new.self.in_flight.items (polled c.loop-left.engine.ops c.in-Some.flight.job) s.9 c.in-Some.ensures.items d.slots d.replied,
       d.started ∙ s.10,
       g.met.R.UserEnds.used_then _ _ _ [] [] [] [] s.11 d.uses,
+      d.waiting ∙ s.12,
     )
 
 pub returns-in_err-poll_one-in-Some-clause-uses : goal.returns-in_err-poll_one-in-Some-clause-uses

@@ -16,6 +16,7 @@ invariant-loop-left g l =
     × AreReplied l.self.slots.items l.self.in_flight.items
     × (l.self.started ≡ l.initial.self.started)
     × g.R.UserEnds.used l.initial.engine.ring [] [] l.engine.ring
+    × (g.R.UserEnds.waiting l.engine.ring ≡ g.R.UserEnds.waiting l.initial.engine.ring)
 
 abbrev pub decreases-loop-left : goal.decreases-loop-left
 decreases-loop-left g l = l.left
