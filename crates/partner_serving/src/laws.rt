@@ -1,0 +1,26 @@
+//! Laws of what a partner did in a stretch of looks, each the contract of a function that does
+//! nothing.
+
+ghost use Rattle.partner_serving.specs.Serving.{ServingsJoin, NoLookServes, WorkingTurnsAreFew, UnbrokenTurnsAreFew};
+
+use partner_traits::Partner;
+use partner_traits::laws::world_laws;
+use uring_model::laws::moves_join;
+
+/// Stretches in a row are one, and none at all is an unbroken one.
+pub fn servings_join<P: Partner>()
+    ensures join { ServingsJoin P.machine }
+    ensures none { NoLookServes P.machine }
+{
+    moves_join();
+    world_laws::<P>();
+}
+
+/// An unbroken stretch has at most two turns for each entry that it takes, where nothing was
+/// pending before it.
+pub fn unbroken_turns_are_few<P: Partner>()
+    ensures moves { WorkingTurnsAreFew P.machine }
+    ensures few { UnbrokenTurnsAreFew P.machine }
+{
+    world_laws::<P>();
+}

@@ -1,0 +1,4 @@
+//! How a partner is served at its side of the rings, look by look.
+#![tactic(auto)]
+
+pub mod laws;
