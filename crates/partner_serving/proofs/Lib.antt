@@ -1,1 +1,2 @@
 pub mod Servings
+pub mod Looks

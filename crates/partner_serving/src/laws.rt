@@ -2,10 +2,11 @@
 //! nothing.
 
 ghost use Rattle.partner_serving.specs.Serving.{ServingsJoin, NoLookServes, WorkingTurnsAreFew, UnbrokenTurnsAreFew};
+ghost use Rattle.partner_serving.specs.Rounds.{DueTurnsWork};
 
 use partner_traits::Partner;
 use partner_traits::laws::world_laws;
-use uring_model::laws::moves_join;
+use uring_model::laws::{moves_join, turns_are_moves};
 
 /// Stretches in a row are one, and none at all is an unbroken one.
 pub fn servings_join<P: Partner>()
@@ -23,4 +24,12 @@ pub fn unbroken_turns_are_few<P: Partner>()
     ensures few { UnbrokenTurnsAreFew P.machine }
 {
     world_laws::<P>();
+}
+
+/// A whole turn of a partner over its files takes or settles an entry, where one was known to wait,
+/// or one was pending and there was room.
+pub fn due_turns_work()
+    ensures { DueTurnsWork }
+{
+    turns_are_moves();
 }

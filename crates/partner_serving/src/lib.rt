@@ -2,3 +2,6 @@
 #![tactic(auto)]
 
 pub mod laws;
+mod rounds;
+
+pub use rounds::serve_round;
