@@ -13,7 +13,7 @@ use Rattle.uring_model.proofs.Joins.{took_turn}
 use Rattle.ring_traits.specs.Lists.{Lists, Moves, WhereTold, room_of}
 use Rattle.partner_traits.specs.Calls.{Enters, IsCall, IsTurn, IsTurnOver}
 use Rattle.partner_serving.specs.Serving.{EachWorks, Serving}
-use Rattle.partner_serving.specs.Rounds.{IsDue, DueTurnsWork}
+use Rattle.partner_serving.specs.Rounds.{TellsDue, DueTurnsWork}
 
 -- takes stay within the turn's number
 
@@ -124,10 +124,10 @@ turn_before kept a ready known space more before after ms le fits same t = recor
     told (Some l) (Some m) s h = h ∙ ap (λ n. turn file_machine t.ts n a) (same_room kept l m s)
 
 -- whether an enter is due, by the lists before the look
-pub due_before : (kept : Completion → Completion) (due : Bool) (a : PartnerState) (n : ℕ) (before after : Option Lists) → IfSome before (λ l. n ≡ length l.published) → SameRings kept before after → IfSome after (λ l. IsDue due n (room_of l) a) → IfSome before (λ l. IsDue due (length l.published) (room_of l) a)
+pub due_before : (kept : Completion → Completion) (due : Bool) (a : PartnerState) (n : ℕ) (before after : Option Lists) → IfSome before (λ l. n ≡ length l.published) → SameRings kept before after → IfSome after (λ l. TellsDue due n (room_of l) a) → IfSome before (λ l. TellsDue due (length l.published) (room_of l) a)
 due_before kept due a n None after e s h = tt
 due_before kept due a n (Some l) None e s h = absurd (s tt)
-due_before kept due a n (Some l) (Some m) e s h = subst (λ k. IsDue due k (room_of l) a) e (subst (λ r. IsDue due n r a) (same_room kept l m s) h)
+due_before kept due a n (Some l) (Some m) e s h = subst (λ k. TellsDue due k (room_of l) a) e (subst (λ r. TellsDue due n r a) (same_room kept l m s) h)
 
 -- where as many were taken as were published, none is left
 pub none_published : (kept : Completion → Completion) (n : ℕ) (before after : Option Lists) (ts : List Taken) (cs : List Completion) → IfSome before (λ l. n ≡ length l.published) → WhereTold (λ l m. Moves kept l ts cs m) before after → n ≤ length ts → IfSome after (λ l. l.published ≡ [])

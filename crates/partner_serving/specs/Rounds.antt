@@ -18,9 +18,9 @@ MemoryServing unbroken old new ts cs = Serving file_machine unbroken (told_log o
 
 -- Whether an enter is due, where so many entries wait and so many completions fit: an entry waits, or one is pending and a
 -- completion fits. Where it isn't, the partner rests.
-abbrev pub IsDue : Bool → ℕ → ℕ → PartnerState → Type 0
-IsDue true ready space a = (0 < ready) ⊎ ((0 < length a.pending) × (0 < space))
-IsDue false ready space a = (ready ≡ 0) × ((length a.pending ≡ 0) ⊎ (space ≡ 0))
+abbrev pub TellsDue : Bool → ℕ → ℕ → PartnerState → Type 0
+TellsDue true ready space a = (0 < ready) ⊎ ((0 < length a.pending) × (0 < space))
+TellsDue false ready space a = (ready ≡ 0) × ((length a.pending ≡ 0) ⊎ (space ≡ 0))
 
 -- The moves of one look, by its answer: one whole turn, over at least what was known to wait and to fit; or none. A refused
 -- enter may leave a turn so far.
@@ -39,4 +39,4 @@ plan_after (Err e) plan = later_plan plan
 
 -- a whole turn that was due works
 abbrev pub DueTurnsWork : Type 0
-DueTurnsWork = (a : PartnerState) (ready space : ℕ) (lists : Option Lists) (ms : List Move) → IsDue true ready space a → IsTurnOver file_machine a ready space lists ms → EachWorks false ms
+DueTurnsWork = (a : PartnerState) (ready space : ℕ) (lists : Option Lists) (ms : List Move) → TellsDue true ready space a → IsTurnOver file_machine a ready space lists ms → EachWorks false ms

@@ -3,10 +3,13 @@
 
 ghost use Rattle.partner_serving.specs.Serving.{ServingsJoin, NoLookServes, WorkingTurnsAreFew, UnbrokenTurnsAreFew};
 ghost use Rattle.partner_serving.specs.Rounds.{DueTurnsWork};
+ghost use Rattle.partner_serving.specs.TwoSides.{TwoSidesAreOneRun};
 
 use partner_traits::Partner;
 use partner_traits::laws::world_laws;
-use uring_model::laws::{moves_join, turns_are_moves};
+use uring_model::laws::{
+    moves_join, no_stranger, partner_replays, turns_are_moves, whole_at_the_end,
+};
 
 /// Stretches in a row are one, and none at all is an unbroken one.
 pub fn servings_join<P: Partner>()
@@ -32,4 +35,16 @@ pub fn due_turns_work()
     ensures { DueTurnsWork }
 {
     turns_are_moves();
+}
+
+/// What both sides of a run tell once they met is one run over one list of moves, whatever their
+/// calls were between each other.
+pub fn two_sides_are_one_run<P: Partner>()
+    ensures { TwoSidesAreOneRun P.machine P.view P.Plain }
+{
+    moves_join();
+    partner_replays();
+    no_stranger();
+    whole_at_the_end();
+    world_laws::<P>();
 }

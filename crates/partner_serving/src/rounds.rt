@@ -7,7 +7,7 @@ ghost use Rattle.uring_base.specs.Causes.{HasCause};
 ghost use Rattle.ring_traits.specs.Lists.{room_of};
 ghost use Rattle.partner_traits.specs.Calls.{IsPlannedFailure, KeepsErrno, is_fault};
 ghost use Rattle.uring_partner.specs.Told.{state_of, told_log, told_state, told_plan, told_faults, told_errno};
-ghost use Rattle.partner_serving.specs.Rounds.{MemoryServing, IsDue, IsLook, plan_after};
+ghost use Rattle.partner_serving.specs.Rounds.{MemoryServing, TellsDue, IsLook, plan_after};
 
 use crate::laws::due_turns_work;
 use partner_traits::{EnterCall, Partner, PartnerError};
@@ -25,8 +25,8 @@ fn is_due<Q: PartnerSide>(partner: &MemoryPartner, side: &mut Q, published: u32)
     ensures moved { Q.moved side.old [] [] side.new }
     ensures ready { Q.ready side.new ≡ Q.ready side.old }
     ensures space { Q.space side.old ≤ Q.space side.new }
-    ensures due { IsDue result published (Q.space side.new) (state_of partner.now) }
-    ensures told { IfSome (Q.lists side.old) (λ l. IsDue result published (room_of l) (state_of partner.now)) }
+    ensures due { TellsDue result published (Q.space side.new) (state_of partner.now) }
+    ensures told { IfSome (Q.lists side.old) (λ l. TellsDue result published (room_of l) (state_of partner.now)) }
 {
     published != 0 || partner.pending() != 0 && side.room() != 0
 }
@@ -45,8 +45,8 @@ pub fn serve_round<Q: PartnerSide>(
         × OnOk result (Q.ready side.old ≤ length ts) }
     ensures emptied { OnOk result (IfSome (Q.lists side.new) (λ l. l.published ≡ [])) }
     ensures resting { IfOk result (λ entered. entered ≡ false → (partner.new ≡ partner.old) × Q.moved side.old [] [] side.new) }
-    ensures known { IfOk result (λ entered. entered ≡ false → IsDue false (Q.ready side.new) (Q.space side.new) (state_of partner.new)) }
-    ensures told { IfOk result (λ entered. IfSome (Q.lists side.old) (λ l. IsDue entered (length l.published) (room_of l) (state_of partner.old))) }
+    ensures known { IfOk result (λ entered. entered ≡ false → TellsDue false (Q.ready side.new) (Q.space side.new) (state_of partner.new)) }
+    ensures told { IfOk result (λ entered. IfSome (Q.lists side.old) (λ l. TellsDue entered (length l.published) (room_of l) (state_of partner.old))) }
     ensures cause { HasCause is_fault (told_faults partner.old) (told_faults partner.new) result }
     ensures planned { IfErr result (λ e. IsTrue (is_fault e) → Contains (told_plan partner.old) 1) }
     ensures counted { ¬ Contains (told_plan partner.old) 1 → told_faults partner.new ≡ told_faults partner.old }
