@@ -3,5 +3,7 @@
 
 pub mod laws;
 mod rounds;
+#[cfg(test)]
+mod tests;
 
 pub use rounds::serve_round;
