@@ -1,0 +1,5 @@
+pub mod Servings
+pub mod Enters
+pub mod Posts
+pub mod Rests
+pub mod OneRun
