@@ -19,6 +19,7 @@ pub struct SendEnd<T> {
     pub(crate) next_put: u32,
     pub(crate) tail: u32,
     pub(crate) head_seen: u32,
+    pub(crate) ghost sized: { capacity ≡ seat.table_id.slots },
     pub(crate) ghost sound: { SenderIsSound seat.me capacity next_put tail head_seen },
 }
 
@@ -29,5 +30,6 @@ pub struct TakeEnd<T> {
     pub(crate) next_take: u32,
     pub(crate) head: u32,
     pub(crate) tail_seen: u32,
+    pub(crate) ghost sized: { capacity ≡ seat.table_id.slots },
     pub(crate) ghost sound: { TakerIsSound seat.me capacity next_take head tail_seen },
 }

@@ -2,7 +2,7 @@
 ghost use Rattle.std.specs.Prelude.{ℕ, ◌≡◌, ◌+◌, ◌++◌, [], List, length, IfOk, true};
 ghost use Rattle.ring_core.specs.Positions.{is_ring_size};
 ghost use Rattle.ring_core.specs.RingState.{opening};
-ghost use Rattle.ring_shared.specs.StateParts.{IsSenderIn, IsTakerIn};
+ghost use Rattle.ring_shared.specs.StateParts.{IsSenderIn, IsTakerIn, state_of, AreInState};
 ghost use Rattle.ring_shared.specs.Ends.{IsSeatOf, sent, published, published_items, head_loaded, send_capacity, put_place, take_place, seen, taken, taken_items, head_published, take_capacity};
 
 use crate::error::SharedError;
@@ -67,6 +67,8 @@ impl<T> SharedRing<T> {
         ensures prefix { (rest : List T) × (published_items send ≡ seen take ++ rest) }
         ensures taken { (rest : List T) × (published_items send ≡ taken_items take ++ rest) × (length rest ≡ result.left) }
         ensures left { result.left + taken take ≡ published send }
+        // all six positions are those of one state of the core
+        ensures state { (number : T → ℕ) → AreInState number (state_of number send take) send take }
     {
         let SendEnd {
             seat: mut sender,

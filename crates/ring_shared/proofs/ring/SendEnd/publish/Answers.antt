@@ -18,7 +18,7 @@ pub invariant_of-self : goal.invariant_of-self
 invariant_of-self g c = let k = c.args.self.now.sound in let m = c.args.self.now.seat.me in let a = k.loaded in let b = k.close in let d = k.fits in let small = k.size.small in
     let gap = c.gap.ensures.places m.0.start (m.0.limit - c.args.self.now.capacity) (length m.0.published + length (items_of m.1)) k.head_is k.next_is (omega arith) (omega arith) in
     let seat = published_seat _ _ m.0 (items_of m.1) m.1 _ _ _ _ (c.args.self.now.capacity - c.gap.result) k (omega arith) c.turn_slots.ensures.2 c.store.ensures.2 in
-    record { sound = subst (λ n. SenderIsSound n c.args.self.now.capacity c.args.self.now.next_put c.args.self.now.next_put c.args.self.now.head_seen) (sym seat) (sends_of _ _ _ _ _ _ _ (publish_on m.0 (items_of m.1) m.1 _ _ _ _ k)) }
+    record { sized = c.args.self.now.sized ∙ sym (ap (λ t. t.slots) (c.store.ensures.0 ∙ c.turn_slots.ensures.0)); sound = subst (λ n. SenderIsSound n c.args.self.now.capacity c.args.self.now.next_put c.args.self.now.next_put c.args.self.now.head_seen) (sym seat) (sends_of _ _ _ _ _ _ _ (publish_on m.0 (items_of m.1) m.1 _ _ _ _ k)) }
 
 pub returns-clause-same : goal.returns-clause-same
 returns-clause-same g c = let k = c.args.self.now.sound in let m = c.args.self.now.seat.me in let a = k.loaded in let b = k.close in let d = k.fits in let small = k.size.small in
