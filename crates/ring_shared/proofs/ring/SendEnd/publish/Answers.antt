@@ -1,4 +1,4 @@
-use Rattle.std.proofs.Common.{◌+◌, ◌-◌, ◌++◌, length, arith, refl, sym, ap, ◌∙◌, subst, append-nil}
+use Rattle.std.proofs.Common.{◌+◌, ◌-◌, ◌++◌, length, arith, refl, sym, ap, ◌∙◌, subst, append-nil, length-append}
 use Rattle.ring_shared.specs.HeldSlots.{items_of}
 use Rattle.ring_shared.specs.Sound.{SenderIsSound}
 use Rattle.ring_shared.proofs.SenderKept.{whole, sends_of, publish_on, may_publish, published_seat}
@@ -38,3 +38,6 @@ returns-clause-published g c = let k = c.args.self.now.sound in let m = c.args.s
 
 pub returns-clause-step : goal.returns-clause-step
 returns-clause-step g c = λ number m s. let same = returns-clause-same g c in publish_tail number _ _ m s same.0.1 same.1 (returns-clause-published g c) same.2
+
+pub returns-clause-rises : goal.returns-clause-rises
+returns-clause-rises g c = let m = c.args.self.now.seat.me in omega (arith, ap length (returns-clause-published g c), length-append m.0.published (items_of m.1))

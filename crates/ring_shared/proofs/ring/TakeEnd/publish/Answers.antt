@@ -40,3 +40,6 @@ returns-clause-step g c = λ number m s. let same = returns-clause-same g c in p
 
 pub returns-clause-items : goal.returns-clause-items
 returns-clause-items g c = let same = returns-clause-same g c in λ i. take (same.2 i) (same.1 i)
+
+pub returns-clause-rises : goal.returns-clause-rises
+returns-clause-rises g c = let within = c.args.self.now.sound.within in omega (arith, returns-clause-published g c)
