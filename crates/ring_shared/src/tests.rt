@@ -5,6 +5,7 @@ use crate::{LocalRing, SendEnd, SharedRing, TakeEnd};
 use std::sync::Wait;
 use std::test::Fail;
 use std::thread;
+use std::thread::Threads;
 
 /// Each call that can find no memory answers otherwise where there is memory.
 #[test]
@@ -164,22 +165,37 @@ fn take_all(rt: &impl Wait, ring: &SharedRing<u64>, take: TakeEnd<u64>) -> (Take
     (take, strange)
 }
 
+/// Sends all items on one thread and takes them on another.
+fn across<R: Threads + Wait + Sync>(
+    rt: &R,
+    ring: &SharedRing<u64>,
+    send: SendEnd<u64>,
+    take: TakeEnd<u64>,
+) -> (SendEnd<u64>, (TakeEnd<u64>, u64))
+    requires send { IsSeatOf ring.now send.seat }
+    requires take { IsSeatOf ring.now take.seat }
+    ensures send { IsSeatOf ring.now result.0.seat }
+    ensures take { IsSeatOf ring.now result.1.0.seat }
+{
+    thread::join(
+        rt,
+        || -> SendEnd<u64>
+            requires { IsSeatOf ring.now send.seat }
+            ensures { IsSeatOf ring.entry.now result.seat }
+        { send_all(rt, ring, send) },
+        || -> (TakeEnd<u64>, u64)
+            requires { IsSeatOf ring.now take.seat }
+            ensures { IsSeatOf ring.entry.now result.0.seat }
+        { take_all(rt, ring, take) },
+    )
+}
+
 /// Two threads: all items come, in order.
 #[test]
 #[tactic(auto, unfolding(ring_core::specs::Positions::is_ring_size))]
 fn two_threads(rt: HostRuntime) -> Result<(), Fail> {
     let (ring, send, take) = SharedRing::new(rt.alloc(), 8, 4294967290)?;
-    let (send, (take, strange)) = thread::join(
-        &rt,
-        || -> SendEnd<u64>
-            requires { IsSeatOf ring.now send.seat }
-            ensures { IsSeatOf ring.now result.seat }
-        { send_all(&rt, &ring, send) },
-        || -> (TakeEnd<u64>, u64)
-            requires { IsSeatOf ring.now take.seat }
-            ensures { IsSeatOf ring.now result.0.seat }
-        { take_all(&rt, &ring, take) },
-    );
+    let (send, (take, strange)) = across(&rt, &ring, send, take);
     assert_eq!(rt; strange, 0);
     assert_eq!(rt; (send.place(), take.place()), (999_994, 999_994));
     assert_eq!(rt; ring.meet(send, take).left, 0);
