@@ -1,13 +1,15 @@
 -- Each move of an end is a step of the core.
-use Rattle.std.proofs.Common.{◌≡◌, ℕ, zero, suc, Bool, ◌+◌, ◌<◌, List, [], ◌∷◌, ◌++◌, length, map, take, Option, Some, None, sym, refl, ap, ◌∙◌, subst, arith, length-append, lt-ltb, le-ltb}
+use Rattle.std.proofs.Common.{◌≡◌, ℕ, zero, suc, Bool, ◌+◌, ◌<◌, List, [], ◌∷◌, ◌++◌, length, map, take, Option, Some, None, sym, refl, ap, ◌∙◌, subst, arith, append_assoc, length-append, lt-ltb, le-ltb}
+use Rattle.std.proofs.lemmas.List.{length-map, take_at}
 use Rattle.std.specs.Prelude.{slice_get, slice_index, if◌then◌else◌}
 use Rattle.ring_core.specs.declared.steps.CoreStep.TheVariants.{Put, PublishTail, SeeHead, Take, PublishHead, SeeTail}
 use Rattle.ring_core.specs.declared.answers.CoreAnswer.TheVariants.{Done, Full, Empty, Got}
-use Rattle.ring_core.specs.RingState.{RingState, opening, after_step, answer}
+use Rattle.ring_core.specs.RingState.{RingState, PositionsInOrder, opening, after_step, answer}
 use Rattle.ring_shared.specs.declared.ring.SendEnd.{SendEnd}
 use Rattle.ring_shared.specs.declared.ring.TakeEnd.{TakeEnd}
 use Rattle.ring_shared.specs.Ends.{sent, published, published_items, head_loaded, send_capacity, seen, taken, head_published, take_capacity}
-use Rattle.ring_shared.specs.StateParts.{IsSenderIn, IsTakerIn}
+use Rattle.ring_shared.specs.HeldSlots.{items_of}
+use Rattle.ring_shared.specs.StateParts.{IsSenderIn, IsTakerIn, state_of, AreInState}
 use Rattle.ring_shared.proofs.SenderKept.{map_append}
 use Rattle.ring_shared.proofs.TakerKept.{not_empty, tail_of, head_or, of_some}
 
@@ -132,3 +134,19 @@ module _ {T : Type 0} (number : T → ℕ) where
 
   pub opens_taker : (c : ℕ) (e : TakeEnd T) → take_capacity e ≡ c → seen e ≡ [] → taken e ≡ 0 → head_published e ≡ 0 → IsTakerIn number (opening c) e
   opens_taker c e cap none got head = record { capacity = sym cap; values = ap (map number) (sym none); tail_seen = ap length (sym none); next_take = sym got; head = sym head }
+
+  -- ends that met stand in one state, if its positions lie in order
+  pub are_met : (s : SendEnd T) (t : TakeEnd T) (rest : List T) → published_items s ≡ seen t ++ rest → send_capacity s ≡ take_capacity t → PositionsInOrder (state_of number s t) → AreInState number (state_of number s t) s t
+  are_met s t rest known cap order = let more : List T = items_of s.seat.me.1 in let k : List ℕ = map number (seen t) in record {
+    sender = record { capacity = refl; values = refl; next_put = refl; tail = refl; head_seen = refl };
+    taker = record {
+      capacity = cap;
+      values = ap (λ l. take (length (seen t)) (map number l)) (ap (λ l. l ++ more) known ∙ append_assoc (seen t) rest more)
+          ∙ ap (take (length (seen t))) (map_append number (seen t) (rest ++ more))
+          ∙ take_at k (map number (rest ++ more)) (length (seen t)) (length-map (seen t) number);
+      tail_seen = refl;
+      next_take = refl;
+      head = refl;
+    };
+    order = order;
+  }

@@ -399,7 +399,7 @@ module _ {T : Type 0} where
         tt,
         subst (λ (ws : List ℕ). RuleHolds (record { words = ws; homes = s.homes; views = set s.views id m.0 })) (sym (set-get_or s.words 0 0))
             (subst (λ (vs : List (SeatView T)). RuleHolds (record { words = s.words; homes = s.homes; views = vs })) (sym (set_again s.views id m.0 at)) r),
-        (refl, r.tail_word ∙ ap₂ position_at (sym f.1) (ap length (sym f.3)), (let o = r.order.published in let p = r.order.gained in omega (arith, ap length f.3, g.4, f.2)), (r.prefix.0, f.3 ∙ r.prefix.1 ∙ ap (λ k. k ++ r.prefix.0) (sym g.3))),
+        (refl, r.tail_word ∙ ap₂ position_at (sym f.1) (ap length (sym f.3)), (let o = r.order.published in let p = r.order.gained in omega (arith, ap length f.3, g.4, f.2)), (let p = r.order.gained in omega (arith, f.4, g.4, f.2)), (r.prefix.0, f.3 ∙ r.prefix.1 ∙ ap (λ k. k ++ r.prefix.0) (sym g.3))),
       )
 
   -- ---- the rule at the start

@@ -30,9 +30,9 @@ module _ {T : Type 0} where
       × (k ≡ (record m.0 { seen = m.0.seen ++ xs }, slots_from m.0.capacity m.0.start (length m.0.seen) (map Some xs) ++ m.1))
       × (m.0.sends ≡ true → m.0.seen ++ xs ≡ m.0.published)
 
-  -- what was seen is a beginning of what was published, and the tail is the end of that
+  -- what was seen is a beginning of what was published, the tail is the end of that, and no slot was gained that isn't given back
   abbrev pub compared : Me (Option T) (SeatView T) → ℕ → Me (Option T) (SeatView T) → Type 0
-  compared m r k = (k ≡ m) × (r ≡ position_at m.0.start (length m.0.published)) × (length m.0.published ≤ m.0.head + m.0.capacity) × ((rest : List T) × (m.0.published ≡ m.0.seen ++ rest))
+  compared m r k = (k ≡ m) × (r ≡ position_at m.0.start (length m.0.published)) × (length m.0.published ≤ m.0.head + m.0.capacity) × (m.0.limit ≤ m.0.head + m.0.capacity) × ((rest : List T) × (m.0.published ≡ m.0.seen ++ rest))
 
   -- as many slots as the tail goes on go home, and their values are published
   abbrev pub stored_local_tail : ℕ → Me (Option T) (SeatView T) → Me (Option T) (SeatView T) → Type 0

@@ -9,6 +9,8 @@ mod ring;
 mod sender;
 mod shared_ring;
 mod taker;
+#[cfg(test)]
+mod tests;
 mod turns;
 mod view;
 mod word_steps;

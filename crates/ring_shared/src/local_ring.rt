@@ -7,7 +7,7 @@ use crate::view::{RingRule, RingShape, SeatView};
 use atomic_table::{Seat, Table};
 use std::alloc::Global;
 
-/// A ring over atomic words and slots with both its ends.
+/// A ring over atomic words and slots with both its ends, for one thread.
 #[derive(Drop)]
 pub struct LocalRing<T> {
     pub(crate) table: Table<Option<T>, SeatView<T>, RingShape, RingRule, Global>,

@@ -1,4 +1,5 @@
-// The sender's end.
+//! The moves of the sender's end.
+
 ghost use Rattle.std.specs.Prelude.{OnErr, ◌%◌, ◌^◌, ℕ, ◌≡◌, ◌++◌, ◌∷◌, [], ◌+◌, ◌<◌, ◌≤◌, length, MatchResult};
 ghost use Rattle.ring_core.specs.RingState.{RingState, after_step, answer};
 ghost use Rattle.ring_core.specs.declared.steps.CoreStep.TheVariants.{Put, PublishTail, SeeHead};
@@ -33,7 +34,8 @@ impl<T> SendEnd<T> {
         self.next_put
     }
 
-    /// Gives the item back exactly where the ring is full by the head that was last loaded.
+    /// Puts an item behind. The taker doesn't see it before it is published. Gives the item back
+    /// exactly where the ring is full by the head that was last loaded.
     pub fn put(&mut self, ring: &SharedRing<T>, item: T) -> Result<(), T>
         requires { IsSeatOf ring.now self.old.seat }
         ensures same { SameSender self.old self.new × (published_items self.new ≡ published_items self.old) × (head_loaded self.new ≡ head_loaded self.old) }
@@ -57,10 +59,12 @@ impl<T> SendEnd<T> {
         Ok(())
     }
 
+    /// Stores the tail: shows the taker what was put.
     pub fn publish(&mut self, ring: &SharedRing<T>)
         requires { IsSeatOf ring.now self.old.seat }
         ensures same { SameSender self.old self.new × (sent self.new ≡ sent self.old) × (head_loaded self.new ≡ head_loaded self.old) }
         ensures published { published_items self.new ≡ sent self.old }
+        ensures rises { published self.old ≤ published self.new }
         ensures place { put_place self.new ≡ put_place self.old }
         ensures step { (number : T → ℕ) (m : RingState) → IsSenderIn number m self.old → IsSenderIn number (after_step PublishTail m) self.new }
     {
@@ -72,12 +76,13 @@ impl<T> SendEnd<T> {
         self.tail = self.next_put;
     }
 
+    /// Loads the head: sees which slots the taker has given back.
     pub fn refresh(&mut self, ring: &SharedRing<T>)
         requires { IsSeatOf ring.now self.old.seat }
         ensures same { SameSender self.old self.new × (sent self.new ≡ sent self.old) × (published_items self.new ≡ published_items self.old) }
         ensures head { (head_loaded self.old ≤ head_loaded self.new) × (head_loaded self.new ≤ published self.new) }
         ensures place { put_place self.new ≡ put_place self.old }
-        // of each machine whose published head is the one that was loaded
+        // of each state whose published head is the one that was loaded
         ensures step { (number : T → ℕ) (m : RingState) → IsSenderIn number m self.old → m.head ≡ head_loaded self.new → IsSenderIn number (after_step SeeHead m) self.new }
     {
         let free = self.capacity - gap(self.head_seen, self.next_put);

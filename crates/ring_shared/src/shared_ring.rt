@@ -1,8 +1,9 @@
-// How a ring is made, and how its ends meet.
+//! How a ring is made, and how its ends meet.
+
 ghost use Rattle.std.specs.Prelude.{ℕ, ◌≡◌, ◌+◌, ◌++◌, [], List, length, IfOk, true};
 ghost use Rattle.ring_core.specs.Positions.{is_ring_size};
 ghost use Rattle.ring_core.specs.RingState.{opening};
-ghost use Rattle.ring_shared.specs.StateParts.{IsSenderIn, IsTakerIn};
+ghost use Rattle.ring_shared.specs.StateParts.{IsSenderIn, IsTakerIn, state_of, AreInState};
 ghost use Rattle.ring_shared.specs.Ends.{IsSeatOf, sent, published, published_items, head_loaded, send_capacity, put_place, take_place, seen, taken, taken_items, head_published, take_capacity};
 
 use crate::error::SharedError;
@@ -13,13 +14,15 @@ use atomic_table::Table;
 use ring_core::gap;
 use std::alloc::Global;
 
-/// How many items are published and not taken.
+/// What two ends that met tell.
 #[derive(Drop)]
 pub struct Met {
+    /// How many items are published and not taken.
     pub left: u32,
 }
 
 impl<T> SharedRing<T> {
+    /// A ring that holds nothing and its two ends, each position at `start`, or want of memory.
     pub fn new(
         alloc: Global,
         capacity: u32,
@@ -61,12 +64,16 @@ impl<T> SharedRing<T> {
         Ok((SharedRing { table }, send, take))
     }
 
+    /// Brings both ends together on one thread, and counts what is left between them. Items that
+    /// weren't taken are dropped with the ring.
     pub fn meet(&self, send: SendEnd<T>, take: TakeEnd<T>) -> Met
         requires send { IsSeatOf self.now send.seat }
         requires take { IsSeatOf self.now take.seat }
         ensures prefix { (rest : List T) × (published_items send ≡ seen take ++ rest) }
         ensures taken { (rest : List T) × (published_items send ≡ taken_items take ++ rest) × (length rest ≡ result.left) }
         ensures left { result.left + taken take ≡ published send }
+        // all six positions are those of one state of the core
+        ensures state { (number : T → ℕ) → AreInState number (state_of number send take) send take }
     {
         let SendEnd {
             seat: mut sender,

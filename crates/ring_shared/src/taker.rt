@@ -1,4 +1,5 @@
-// The taker's end.
+//! The moves of the taker's end.
+
 ghost use Rattle.std.specs.Prelude.{◌%◌, ◌^◌, ℕ, map, take, ◌≡◌, ◌++◌, ◌∷◌, [], List, ◌+◌, ◌<◌, ◌≤◌, length, MatchOption, slice_get};
 ghost use Rattle.ring_core.specs.RingState.{RingState, after_step, answer};
 ghost use Rattle.ring_core.specs.declared.steps.CoreStep.TheVariants.{Take, PublishHead, SeeTail};
@@ -34,7 +35,8 @@ impl<T> TakeEnd<T> {
         self.next_take
     }
 
-    /// Gives nothing exactly where the ring is empty by the tail that was last loaded.
+    /// Takes the item in front. The sender doesn't see that its slot is free before that is
+    /// published. Gives nothing exactly where the ring is empty by the tail that was last loaded.
     pub fn take(&mut self, ring: &SharedRing<T>) -> Option<T>
         requires { IsSeatOf ring.now self.old.seat }
         ensures same { SameTaker self.old self.new × (seen self.new ≡ seen self.old) × (head_published self.new ≡ head_published self.old) }
@@ -57,10 +59,12 @@ impl<T> TakeEnd<T> {
         Some(item)
     }
 
+    /// Stores the head: gives the slots of what was taken back.
     pub fn publish(&mut self, ring: &SharedRing<T>)
         requires { IsSeatOf ring.now self.old.seat }
         ensures same { SameTaker self.old self.new × (seen self.new ≡ seen self.old) × (taken self.new ≡ taken self.old) }
         ensures published { head_published self.new ≡ taken self.old }
+        ensures rises { head_published self.old ≤ head_published self.new }
         ensures items { taken_items self.new ≡ taken_items self.old }
         ensures place { take_place self.new ≡ take_place self.old }
         ensures step { (number : T → ℕ) (m : RingState) → IsTakerIn number m self.old → IsTakerIn number (after_step PublishHead m) self.new }
@@ -73,6 +77,7 @@ impl<T> TakeEnd<T> {
         self.head = self.next_take;
     }
 
+    /// Loads the tail: sees what the sender has published.
     pub fn refresh(&mut self, ring: &SharedRing<T>)
         requires { IsSeatOf ring.now self.old.seat }
         ensures same { SameTaker self.old self.new × (taken self.new ≡ taken self.old) × (head_published self.new ≡ head_published self.old) }
@@ -80,7 +85,7 @@ impl<T> TakeEnd<T> {
         ensures grows { length (seen self.old) ≤ length (seen self.new) }
         ensures items { taken_items self.new ≡ taken_items self.old }
         ensures place { take_place self.new ≡ take_place self.old }
-        // of each machine whose published list is the one that was seen
+        // of each state whose published list is the one that was seen
         ensures step { (number : T → ℕ) (m : RingState) → IsTakerIn number m self.old → m.tail ≡ length (seen self.new) → take m.tail m.values ≡ map number (seen self.new) → IsTakerIn number (after_step SeeTail m) self.new }
     {
         let ahead = gap(self.next_take, self.tail_seen);

@@ -1,4 +1,5 @@
-// RingRule of a seat.
+//! Turns of what a seat holds.
+
 ghost use Rattle.std.specs.Prelude.{◌≡◌};
 ghost use Rattle.ring_shared.specs.HeldSlots.{turned_times};
 

@@ -1,4 +1,4 @@
-use Rattle.std.proofs.Common.{◌+◌, ◌-◌, ◌++◌, length, arith, refl, sym, ap, ◌∙◌, subst, append-nil}
+use Rattle.std.proofs.Common.{◌+◌, ◌-◌, ◌++◌, length, arith, refl, sym, ap, ◌∙◌, subst, append-nil, length-append}
 use Rattle.ring_shared.specs.HeldSlots.{items_of}
 use Rattle.ring_shared.specs.Sound.{SenderIsSound}
 use Rattle.ring_shared.proofs.SenderKept.{whole, sends_of, publish_on, may_publish, published_seat}
@@ -18,7 +18,7 @@ pub invariant_of-self : goal.invariant_of-self
 invariant_of-self g c = let k = c.args.self.now.sound in let m = c.args.self.now.seat.me in let a = k.loaded in let b = k.close in let d = k.fits in let small = k.size.small in
     let gap = c.gap.ensures.places m.0.start (m.0.limit - c.args.self.now.capacity) (length m.0.published + length (items_of m.1)) k.head_is k.next_is (omega arith) (omega arith) in
     let seat = published_seat _ _ m.0 (items_of m.1) m.1 _ _ _ _ (c.args.self.now.capacity - c.gap.result) k (omega arith) c.turn_slots.ensures.2 c.store.ensures.2 in
-    record { sound = subst (λ n. SenderIsSound n c.args.self.now.capacity c.args.self.now.next_put c.args.self.now.next_put c.args.self.now.head_seen) (sym seat) (sends_of _ _ _ _ _ _ _ (publish_on m.0 (items_of m.1) m.1 _ _ _ _ k)) }
+    record { sized = c.args.self.now.sized ∙ sym (ap (λ t. t.slots) (c.store.ensures.0 ∙ c.turn_slots.ensures.0)); sound = subst (λ n. SenderIsSound n c.args.self.now.capacity c.args.self.now.next_put c.args.self.now.next_put c.args.self.now.head_seen) (sym seat) (sends_of _ _ _ _ _ _ _ (publish_on m.0 (items_of m.1) m.1 _ _ _ _ k)) }
 
 pub returns-clause-same : goal.returns-clause-same
 returns-clause-same g c = let k = c.args.self.now.sound in let m = c.args.self.now.seat.me in let a = k.loaded in let b = k.close in let d = k.fits in let small = k.size.small in
@@ -38,3 +38,6 @@ returns-clause-published g c = let k = c.args.self.now.sound in let m = c.args.s
 
 pub returns-clause-step : goal.returns-clause-step
 returns-clause-step g c = λ number m s. let same = returns-clause-same g c in publish_tail number _ _ m s same.0.1 same.1 (returns-clause-published g c) same.2
+
+pub returns-clause-rises : goal.returns-clause-rises
+returns-clause-rises g c = let m = c.args.self.now.seat.me in omega (arith, ap length (returns-clause-published g c), length-append m.0.published (items_of m.1))

@@ -27,7 +27,7 @@ pub invariant_of-self : goal.invariant_of-self
 invariant_of-self g c = let k = c.args.self.now.sound in let m = c.args.self.now.seat.me in let a = k.loaded in let b = k.close in let d = k.fits in let small = k.size.small in
     let gap = c.gap.ensures.places m.0.start (m.0.limit - c.args.self.now.capacity) (length m.0.published + length (items_of m.1)) k.head_is k.next_is (omega arith) (omega arith) in let not = c.if-gap-self.false in
     let on = put_on m.0 (items_of m.1) m.1 _ _ _ _ k c.slot_of-slot.result c.next-self.result c.args.item (omega arith) (c.slot_of-slot.ensures.place m.0.start _ k.next_is) (c.next-self.ensures.place m.0.start _ k.next_is) in
-    record { sound = subst (λ n. SenderIsSound n c.args.self.now.capacity c.next-self.result c.args.self.now.tail c.args.self.now.head_seen) (sym (c.turn.ensures.2 ∙ ap (λ n. (n.0, turned n.1)) c.exchange.ensures.3)) (sends_of m.0 _ _ _ _ _ _ on) }
+    record { sized = c.args.self.now.sized ∙ sym (ap (λ t. t.slots) (c.turn.ensures.0 ∙ c.exchange.ensures.0)); sound = subst (λ n. SenderIsSound n c.args.self.now.capacity c.next-self.result c.args.self.now.tail c.args.self.now.head_seen) (sym (c.turn.ensures.2 ∙ ap (λ n. (n.0, turned n.1)) c.exchange.ensures.3)) (sends_of m.0 _ _ _ _ _ _ on) }
 
 pub returns-clause-put : goal.returns-clause-put
 returns-clause-put g c = let k = c.args.self.now.sound in let m = c.args.self.now.seat.me in let a = k.loaded in let b = k.close in let d = k.fits in let small = k.size.small in

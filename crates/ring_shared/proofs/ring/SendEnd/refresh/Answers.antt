@@ -42,7 +42,7 @@ invariant_of-self g c = let k = c.args.self.now.sound in let m = c.args.self.now
     let gained = c.gap-gained.ensures.places m.0.start (m.0.limit - c.args.self.now.capacity) told.0 k.head_is told.1 (omega arith) (omega arith) in
     let seat = refreshed_seat _ m.0 (items_of m.1) m.1 _ _ _ _ (c.args.self.now.capacity - c.gap.result) k free c.turn_slots.ensures.2 _ _ _ c.load-head.ensures.2 (c.gap-gained.result + c.gap-pending.result) (omega arith) c.turn_slots-2.ensures.2 in
     let on = refresh_on m.0 (items_of m.1) m.1 _ _ _ _ k told.0 c.load-head.result told.2 told.3 told.1 in
-    record { sound = subst (λ n. SenderIsSound n c.args.self.now.capacity c.args.self.now.next_put c.args.self.now.tail c.load-head.result) (sym seat) (sends_of _ _ _ _ _ _ _ on) }
+    record { sized = c.args.self.now.sized ∙ sym (ap (λ t. t.slots) (c.turn_slots-2.ensures.0 ∙ c.load-head.ensures.0 ∙ c.turn_slots.ensures.0)); sound = subst (λ n. SenderIsSound n c.args.self.now.capacity c.args.self.now.next_put c.args.self.now.tail c.load-head.result) (sym seat) (sends_of _ _ _ _ _ _ _ on) }
 
 pub returns-clause-same : goal.returns-clause-same
 returns-clause-same g c = let k = c.args.self.now.sound in let m = c.args.self.now.seat.me in let a = k.loaded in let b = k.close in let d = k.fits in let small = k.size.small in

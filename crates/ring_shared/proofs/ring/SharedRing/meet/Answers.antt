@@ -5,6 +5,7 @@ use Rattle.ring_shared.specs.HeldSlots.{items_of}
 use Rattle.ring_shared.specs.Rule.{joined}
 use Rattle.ring_shared.specs.WordSteps.{compared}
 use Rattle.ring_shared.proofs.RuleKept.{splits, joins, compares}
+use Rattle.ring_shared.proofs.CoreSteps.{are_met}
 use Rattle.ring_shared.proofs.ring.SharedRing.meet.Goals as goal
 
 pub split_seat-part-requires : goal.split_seat-part-requires
@@ -27,7 +28,7 @@ returns-clause-left g c = let p = c.split_seat-part.ensures in let j = c.join_se
     let told = subst (λ z. compared z c.load-tail.result c.load-tail.new.seat.me) seat c.load-tail.ensures.2 in
     let k = c.args.take.sound in let within = k.within in let small = k.size.small in let same = k.same in let near = told.2 in
     let q : ℕ = length w.0.seen - length (items_of w.1) in
-    let all : length v.published ≡ length w.0.seen + length told.3.0 = ap length told.3.1 ∙ length-append w.0.seen told.3.0 in
+    let all : length v.published ≡ length w.0.seen + length told.4.0 = ap length told.4.1 ∙ length-append w.0.seen told.4.0 in
     let gap = c.gap.ensures.places w.0.start q (length v.published) k.next_is told.1 (omega arith) (omega arith) in
     omega arith
 
@@ -37,9 +38,27 @@ returns-clause-taken g c = let p = c.split_seat-part.ensures in let j = c.join_s
     let told = subst (λ z. compared z c.load-tail.result c.load-tail.new.seat.me) seat c.load-tail.ensures.2 in
     let k = c.args.take.sound in let within = k.within in let small = k.size.small in let same = k.same in let near = told.2 in
     let q : ℕ = length w.0.seen - length (items_of w.1) in
-    let all : length v.published ≡ length w.0.seen + length told.3.0 = ap length told.3.1 ∙ length-append w.0.seen told.3.0 in
+    let all : length v.published ≡ length w.0.seen + length told.4.0 = ap length told.4.1 ∙ length-append w.0.seen told.4.0 in
     let gap = c.gap.ensures.places w.0.start q (length v.published) k.next_is told.1 (omega arith) (omega arith) in (
-      drop q w.0.seen ++ told.3.0,
-      told.3.1 ∙ ap (λ l. l ++ told.3.0) (sym (take-append-drop q w.0.seen)) ∙ append_assoc (take q w.0.seen) (drop q w.0.seen) told.3.0,
-      (let l = length-append (drop q w.0.seen) told.3.0 in let d = length-drop q w.0.seen in omega arith),
+      drop q w.0.seen ++ told.4.0,
+      told.4.1 ∙ ap (λ l. l ++ told.4.0) (sym (take-append-drop q w.0.seen)) ∙ append_assoc (take q w.0.seen) (drop q w.0.seen) told.4.0,
+      (let l = length-append (drop q w.0.seen) told.4.0 in let d = length-drop q w.0.seen in omega arith),
     )
+
+pub returns-clause-state : goal.returns-clause-state
+returns-clause-state g c = λ number. let p = c.split_seat-part.ensures in let j = c.join_seat.ensures in let v = c.args.send.seat.me in let w = c.args.take.seat.me in
+    let seat = j.2 ∙ ap (λ z. (joined v.0 z.0, v.1)) p.4 in
+    let told = subst (λ z. compared z c.load-tail.result c.load-tail.new.seat.me) seat c.load-tail.ensures.2 in
+    let s = c.args.send.sound in let loaded = s.loaded in let fits = s.fits in
+    let k = c.args.take.sound in let within = k.within in let same = k.same in let gained = told.3 in
+    let cap : c.args.send.capacity ≡ c.args.take.capacity = c.args.send.sized ∙ ap (λ t. t.slots) (c.requires.send ∙ sym c.requires.take) ∙ sym c.args.take.sized in
+    let all : length v.0.published ≡ length w.0.seen + length told.4.0 = ap length told.4.1 ∙ length-append w.0.seen told.4.0 in
+    let put = length-append v.0.published (items_of v.1) in
+    are_met number c.args.send c.args.take told.4.0 told.4.1 cap (record {
+      head_seen = omega arith;
+      head = omega arith;
+      next_take = omega arith;
+      tail_seen = omega arith;
+      tail = omega arith;
+      next_put = omega arith;
+    })

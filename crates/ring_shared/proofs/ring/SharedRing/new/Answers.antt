@@ -21,11 +21,11 @@ split_seat-other-requires g c = let t = c.in_ok-table.ensures in let o = made_se
 
 pub invariant_of-send : goal.invariant_of-send
 invariant_of-send g c = let t = c.in_ok-table.ensures in let o = made_seat c.args.capacity c.args.start _ _ _ t.4 c.load.ensures.2 in
-    record { sound = new_sender c.args.capacity c.args.start (is_size _ c.requires) c.ranges.start.fits _ _ o c.split_seat-other.ensures.2 }
+    record { sized = sym (ap (λ i. i.slots) (c.split_seat-other.ensures.0 ∙ c.load.ensures.0 ∙ t.2) ∙ t.1); sound = new_sender c.args.capacity c.args.start (is_size _ c.requires) c.ranges.start.fits _ _ o c.split_seat-other.ensures.2 }
 
 pub invariant_of-take : goal.invariant_of-take
 invariant_of-take g c = let t = c.in_ok-table.ensures in let o = made_seat c.args.capacity c.args.start _ _ _ t.4 c.load.ensures.2 in
-    record { sound = new_taker c.args.capacity c.args.start (is_size _ c.requires) c.ranges.start.fits _ _ o c.split_seat-other.ensures.4 }
+    record { sized = sym (ap (λ i. i.slots) (c.split_seat-other.ensures.3 ∙ c.load.ensures.0 ∙ t.2) ∙ t.1); sound = new_taker c.args.capacity c.args.start (is_size _ c.requires) c.ranges.start.fits _ _ o c.split_seat-other.ensures.4 }
 
 pub returns-clause-sender : goal.returns-clause-sender
 returns-clause-sender g c = let t = c.in_ok-table.ensures in let o = made_seat c.args.capacity c.args.start _ _ _ t.4 c.load.ensures.2 in

@@ -16,7 +16,7 @@ invariant_of-self g c = let k = c.args.self.now.sound in let m = c.args.self.now
     let gap = c.gap-ahead.ensures.places m.0.start q (length m.0.seen) k.next_is k.tail_is (omega arith) (omega arith) in
     let ahead : c.gap-ahead.result ≡ length x = omega arith in
     let seat = published_seat m.0 x m.1 _ _ _ _ k _ _ ahead c.turn_slots.ensures.2 _ c.store.ensures.2 in let on = publish_on m.0 x m.1 _ _ _ _ k in
-    record { sound = subst (λ n. TakerIsSound n c.args.self.now.capacity c.args.self.now.next_take c.args.self.now.next_take c.args.self.now.tail_seen) (sym seat) (takes_of _ _ _ _ _ _ _ on) }
+    record { sized = c.args.self.now.sized ∙ sym (ap (λ t. t.slots) (c.store.ensures.0 ∙ c.turn_slots.ensures.0)); sound = subst (λ n. TakerIsSound n c.args.self.now.capacity c.args.self.now.next_take c.args.self.now.next_take c.args.self.now.tail_seen) (sym seat) (takes_of _ _ _ _ _ _ _ on) }
 
 pub returns-clause-same : goal.returns-clause-same
 returns-clause-same g c = let k = c.args.self.now.sound in let m = c.args.self.now.seat.me in let a = k.within in let b = k.close in let d = k.same in let small = k.size.small in let x : List g.row.T.Denot = items_of m.1 in let q : ℕ = length m.0.seen - length x in
@@ -40,3 +40,6 @@ returns-clause-step g c = λ number m s. let same = returns-clause-same g c in p
 
 pub returns-clause-items : goal.returns-clause-items
 returns-clause-items g c = let same = returns-clause-same g c in λ i. take (same.2 i) (same.1 i)
+
+pub returns-clause-rises : goal.returns-clause-rises
+returns-clause-rises g c = let within = c.args.self.now.sound.within in omega (arith, returns-clause-published g c)

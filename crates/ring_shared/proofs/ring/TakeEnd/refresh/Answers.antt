@@ -38,7 +38,7 @@ invariant_of-self g c = let k = c.args.self.now.sound in let m = c.args.self.now
     let gained = c.gap-gained.ensures.places m.0.start (length m.0.seen) (length (m.0.seen ++ told.0)) k.tail_is told.1 (omega arith) (omega arith) in
     let seat = refreshed_seat m.0 x m.1 _ _ _ _ k _ _ ahead c.turn_slots.ensures.2 _ _ _ c.load-tail.ensures.2 (c.gap-gained.result + c.gap-emptied.result) (omega arith) c.turn_slots-2.ensures.2 in
     let on = refresh_on m.0 x m.1 _ _ _ _ k told.0 c.load-tail.result told.2 told.1 in
-    record { sound = subst (λ n. TakerIsSound n c.args.self.now.capacity c.args.self.now.next_take c.args.self.now.head c.load-tail.result) (sym seat) (takes_of _ _ _ _ _ _ _ on) }
+    record { sized = c.args.self.now.sized ∙ sym (ap (λ t. t.slots) (c.turn_slots-2.ensures.0 ∙ c.load-tail.ensures.0 ∙ c.turn_slots.ensures.0)); sound = subst (λ n. TakerIsSound n c.args.self.now.capacity c.args.self.now.next_take c.args.self.now.head c.load-tail.result) (sym seat) (takes_of _ _ _ _ _ _ _ on) }
 
 pub returns-clause-same : goal.returns-clause-same
 returns-clause-same g c = let k = c.args.self.now.sound in let m = c.args.self.now.seat.me in let a = k.within in let b = k.close in let d = k.same in let small = k.size.small in let x : List g.row.T.Denot = items_of m.1 in let q : ℕ = length m.0.seen - length x in

@@ -32,7 +32,7 @@ invariant_of-self g c = let k = c.args.self.now.sound in let m = c.args.self.now
     let y = cons_of x (omega arith) in let f = front m.0 x m.1 _ _ _ _ k y.0 y.1 y.2 in
     let on = take_on m.0 x m.1 _ _ _ _ k y.0 y.1 y.2 c.slot_of-slot.result c.next-self.result (c.slot_of-slot.ensures.place m.0.start _ k.next_is) (c.next-self.ensures.place m.0.start _ k.next_is) in
     let seat = c.turn.ensures.2 ∙ ap (λ n. (n.0, turned n.1)) c.exchange.ensures.3 in
-    record { sound = subst (λ n. TakerIsSound n c.args.self.now.capacity c.next-self.result c.args.self.now.head c.args.self.now.tail_seen) (sym seat) (takes_of m.0 _ _ _ _ _ _ on) }
+    record { sized = c.args.self.now.sized ∙ sym (ap (λ t. t.slots) (c.turn.ensures.0 ∙ c.exchange.ensures.0)); sound = subst (λ n. TakerIsSound n c.args.self.now.capacity c.next-self.result c.args.self.now.head c.args.self.now.tail_seen) (sym seat) (takes_of m.0 _ _ _ _ _ _ on) }
 
 pub returns-clause-take : goal.returns-clause-take
 returns-clause-take g c = let k = c.args.self.now.sound in let m = c.args.self.now.seat.me in let a = k.within in let b = k.close in let d = k.same in let small = k.size.small in let x : List g.row.T.Denot = items_of m.1 in let q : ℕ = length m.0.seen - length x in
