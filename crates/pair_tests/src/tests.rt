@@ -1,2 +1,3 @@
 mod rings;
+mod rounds;
 mod threads;
