@@ -1,5 +1,5 @@
 pub mod Servings
-pub mod Looks
+pub mod Enters
 pub mod Posts
 pub mod Rests
 pub mod OneRun

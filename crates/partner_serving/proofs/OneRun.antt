@@ -1,5 +1,5 @@
 -- What two sides that met tell of their run.
-use Rattle.std.proofs.Common.{◌≡◌, ℕ, ◌+◌, ◌*◌, ◌<◌, ◌≤◌, suc, Bool, true, false, nat_lt, nat_eq, List, [], ◌∷◌, ◌++◌, length, map, Option, Some, None, All, refl, ap, sym, subst, ◌∙◌, append_assoc, append-nil, arith, length-append}
+use Rattle.std.proofs.Common.{◌≡◌, ℕ, ◌+◌, ◌*◌, ◌<◌, ◌≤◌, suc, Bool, true, false, nat_lt, List, [], ◌∷◌, ◌++◌, length, map, None, All, refl, ap, sym, subst, ◌∙◌, append_assoc, append-nil, arith, length-append}
 use Rattle.std.specs.Bool.{OnTrue}
 use Rattle.std.specs.List.{AllByRecursion}
 use Rattle.std.proofs.lemmas.List.{length-map}
@@ -7,15 +7,14 @@ use Rattle.std.proofs.lemmas.List.Elements.{All-from_recursion, recursion_from_A
 use Rattle.std.proofs.lemmas.Bool.Decides.{nat_tests}
 use Rattle.uring_base.specs.declared.events.Taken.{Taken}
 use Rattle.uring_base.specs.declared.events.Completion.{Completion}
-use Rattle.uring_base.specs.declared.events.LogEvent.{LogEvent}
 use Rattle.uring_model.specs.Machine.{Files}
 use Rattle.uring_model.specs.Jobs.{Job, quiets_are_linked, quiets_of}
-use Rattle.uring_model.specs.Replay.{ReplayState, last_unlinked, first_state, replay, IsWhole}
-use Rattle.uring_model.specs.Moves.{Move, Posted, took, posted, log_of, journal_of, logged}
+use Rattle.uring_model.specs.Replay.{last_unlinked, first_state, IsWhole}
+use Rattle.uring_model.specs.Moves.{Move, Posted, took, posted, log_of}
 use Rattle.uring_model.specs.Asks.{job_of, IsJobEntry}
 use Rattle.uring_model.specs.Schedule.{Machine, State}
 use Rattle.uring_model.specs.Schedule as schedule
-use Rattle.uring_model.specs.Partner.{file_machine, PartnerState, Steps, IsIdle, idle}
+use Rattle.uring_model.specs.Partner.{PartnerState, Steps, IsIdle, idle}
 use Rattle.uring_model.specs.Progress.{turns}
 use Rattle.uring_model.specs.Refines.{IsPlainAndIdle, IsPlainState, WorldLaws, viewed}
 use Rattle.uring_model.specs.Explained.{Numbered, Explained, IdleCallsAreMoves, IdlePartnersAreExplained}
@@ -23,8 +22,8 @@ use Rattle.uring_model.specs.Honest.{TakesWithinTurns, HasOwnLoan, NoPostIsStran
 use Rattle.uring_model.specs.Strange.{nothing_seen, all_seen, first_strange, ended_in, is_answered}
 use Rattle.uring_model.specs.Ends.{IdleWhereWhole, AnsweredAtEnd, WholeWhereAnswered}
 use Rattle.ring_traits.specs.Lists.{IsKept}
-use Rattle.partner_serving.specs.Serving.{EachWorks, Serving}
-use Rattle.partner_serving.specs.TwoSides.{AreEntriesOf, TwoSides, started_all, AllAnswered, IsAllDone, OneRun, TwoSidesAreOneRun}
+use Rattle.partner_serving.specs.Serving.{EachWorks}
+use Rattle.partner_serving.specs.TwoSides.{AreEntriesOf, started_all, AllAnswered, TwoSidesAreOneRun}
 use Rattle.partner_serving.proofs.Servings.{working_turns}
 use Rattle.partner_serving.proofs.Posts.{kept_log, posts_log-append, ended_posts, answered-append, strange_parts, unanswered_before, IsBelow, posts_expected, numbered_front, all_below}
 use Rattle.partner_serving.proofs.Rests.{rest_left}

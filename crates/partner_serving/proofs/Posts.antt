@@ -1,5 +1,5 @@
 -- What completions say alone, apart from the moves between them.
-use Rattle.std.proofs.Common.{◌≡◌, ℕ, ◌+◌, ◌<◌, ◌≤◌, zero, suc, Bool, true, false, ◌&&◌, ◌||◌, not, cond, if◌then◌else◌, nat_lt, nat_eq, List, [], ◌∷◌, ◌++◌, length, map, drop, Option, Some, None, refl, ap, sym, subst, ◌∙◌, arith, length-append}
+use Rattle.std.proofs.Common.{◌≡◌, ℕ, ◌+◌, ◌<◌, ◌≤◌, Bool, true, false, ◌&&◌, ◌||◌, not, cond, if◌then◌else◌, nat_lt, nat_eq, List, [], ◌∷◌, ◌++◌, length, map, drop, Option, Some, None, refl, ap, ◌∙◌, arith}
 use Rattle.std.specs.List.{AllByRecursion, list_any}
 use Rattle.std.proofs.lemmas.List.{map-append}
 use Rattle.std.proofs.lemmas.Bool.Decides.{nat_tests}
@@ -8,11 +8,10 @@ use Rattle.uring_base.specs.declared.events.Completion.{Completion}
 use Rattle.uring_base.specs.declared.events.LogEvent.{LogEvent}
 use Rattle.uring_base.specs.declared.events.LogEvent.TheVariants as logs
 use Rattle.uring_base.specs.Completions.{is_final}
-use Rattle.uring_model.specs.Moves.{Move, Turned, Took, Posted, Quieted, took, posted, logged, log_of}
+use Rattle.uring_model.specs.Moves.{Move, Turned, Took, Posted, Quieted, posted, logged, log_of}
 use Rattle.uring_model.specs.Explained.{Numbered}
 use Rattle.uring_model.specs.Strange.{Seen, nothing_seen, seen_after, all_seen, ended_in, answered_from, is_answered, has_other_number, has_wrong_loan, is_strange, first_strange}
 use Rattle.ring_traits.specs.Lists.{IsKept}
-use Rattle.partner_serving.specs.TwoSides.{started_all}
 
 -- what a ring keeps of completions says the same
 

@@ -1,10 +1,10 @@
 -- How many jobs a replay has left.
-use Rattle.std.proofs.Common.{◌≡◌, ℕ, ◌+◌, Bool, true, false, ◌&&◌, if◌then◌else◌, nat_eq, List, [], ◌∷◌, ◌++◌, length, ℤ, Option, Some, None, refl, ap, sym, subst, ◌∙◌, arith}
+use Rattle.std.proofs.Common.{◌≡◌, ℕ, ◌+◌, Bool, true, false, ◌&&◌, if◌then◌else◌, nat_eq, List, [], ◌∷◌, length, ℤ, Option, Some, None, refl, ap, subst, ◌∙◌, arith}
 use Rattle.std.proofs.lemmas.Option.{same_Some}
 use Rattle.uring_base.specs.declared.events.Event.{Event}
 use Rattle.uring_base.specs.Completions.{is_final}
 use Rattle.uring_model.specs.Jobs.{Job, ends_quietly}
-use Rattle.uring_model.specs.Replay.{Row, Open, Place, ReplayState, may, settle, settle_at, by_post, place_of, take_job, replay_event, replay_next, replay_from}
+use Rattle.uring_model.specs.Replay.{Place, ReplayState, may, settle, settle_at, by_post, place_of, take_job, replay_next, replay_from}
 use Rattle.uring_model.specs.Moves.{Move, Turned, Took, Posted, Quieted, took, journal_of, log_of}
 
 -- where an event takes place, the state behind it goes on

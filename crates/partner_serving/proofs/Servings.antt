@@ -1,14 +1,11 @@
--- Stretches of looks, in a row and by their turns.
-use Rattle.std.proofs.Common.{◌≡◌, ℕ, ◌+◌, ◌*◌, ◌≤◌, Bool, true, false, ◌&&◌, List, [], ◌∷◌, ◌++◌, length, Option, Some, refl, ap, sym, subst, ◌∙◌, arith}
+-- Stretches of rounds, one after the other and by their turns.
+use Rattle.std.proofs.Common.{ℕ, ◌+◌, ◌≤◌, Bool, true, false, ◌&&◌, List, [], ◌∷◌, ◌++◌, length, refl, ap, sym, subst, ◌∙◌, arith}
 use Rattle.std.specs.Bool.{OnTrue}
-use Rattle.uring_base.specs.declared.events.Taken.{Taken}
-use Rattle.uring_base.specs.declared.events.Completion.{Completion}
-use Rattle.uring_base.specs.declared.events.LogEvent.{LogEvent}
 use Rattle.uring_model.specs.Moves.{Move, Turned, Took, Posted, Quieted, took, posted}
-use Rattle.uring_model.specs.Schedule.{Machine, State, Steps}
+use Rattle.uring_model.specs.Schedule.{Machine}
 use Rattle.uring_model.specs.Progress.{turns, settlings, NoneIsLost}
 use Rattle.uring_model.specs.Joins.{MovesJoin, NoMoveStays, CallsJoin, NoCallStays}
-use Rattle.partner_serving.specs.Serving.{EachWorks, Serving, ServingsJoin, NoLookServes, WorkingTurnsAreFew, UnbrokenTurnsAreFew}
+use Rattle.partner_serving.specs.Serving.{EachWorks, ServingsJoin, NoRoundServes, WorkingTurnsAreFew, UnbrokenTurnsAreFew}
 
 -- stretches in a row
 
@@ -52,8 +49,8 @@ module _ {W : Type 0} (m : Machine W) where
     works = both_work u v p.moves q.moves p.works q.works;
   }
 
-  pub no_look_serves : NoMoveStays → NoCallStays m → NoLookServes m
-  no_look_serves moves calls log state = record { moves = []; takes = refl; posts = refl; logs = moves.logs log; states = calls state; within = tt; works = refl }
+  pub no_round_serves : NoMoveStays → NoCallStays m → NoRoundServes m
+  no_round_serves moves calls log state = record { moves = []; takes = refl; posts = refl; logs = moves.logs log; states = calls state; within = tt; works = refl }
 
   pub working_turns : NoneIsLost m → WorkingTurnsAreFew m
   working_turns kept over a b ms h w = omega (arith, kept over a b ms h, turns_le false ms w)

@@ -1,4 +1,4 @@
--- One look of a memory partner at its side of the rings, and at most one enter.
+-- One round of a memory partner: one look at its side of the rings, and at most one enter.
 use Rattle.std.specs.Prelude.{◌≡◌, ℕ, ◌<◌, ◌≤◌, ◌⊎◌, Bool, true, false, List, [], length, Option, Result, Ok, Err}
 use Rattle.uring_base.specs.declared.events.Taken.{Taken}
 use Rattle.uring_base.specs.declared.events.Completion.{Completion}
@@ -22,14 +22,14 @@ abbrev pub TellsDue : Bool → ℕ → ℕ → PartnerState → Type 0
 TellsDue true ready space a = (0 < ready) ⊎ ((0 < length a.pending) × (0 < space))
 TellsDue false ready space a = (ready ≡ 0) × ((length a.pending ≡ 0) ⊎ (space ≡ 0))
 
--- The moves of one look, by its answer: one whole turn, over at least what was known to wait and to fit; or none. A refused
+-- The moves of one round, by its answer: one whole turn, over at least what was known to wait and to fit; or none. A refused
 -- enter may leave a turn so far.
-abbrev pub IsLook : Result Bool PartnerError → PartnerState → ℕ → ℕ → Option Lists → List Move → Type 0
-IsLook (Ok true) a ready space lists ms = IsTurnOver file_machine a ready space lists ms
-IsLook (Ok false) a ready space lists ms = ms ≡ []
-IsLook (Err e) a ready space lists ms = turns ms ≤ 1
+abbrev pub IsRound : Result Bool PartnerError → PartnerState → ℕ → ℕ → Option Lists → List Move → Type 0
+IsRound (Ok true) a ready space lists ms = IsTurnOver file_machine a ready space lists ms
+IsRound (Ok false) a ready space lists ms = ms ≡ []
+IsRound (Err e) a ready space lists ms = turns ms ≤ 1
 
--- the plan of failures after a look: each enter counts it down
+-- the plan of failures after a round: an enter counts it down
 abbrev pub plan_after : Result Bool PartnerError → List ℕ → List ℕ
 plan_after (Ok true) plan = later_plan plan
 plan_after (Ok false) plan = plan

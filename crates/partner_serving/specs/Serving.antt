@@ -1,5 +1,5 @@
--- What a partner did in a stretch of looks at its side of the rings.
-use Rattle.std.specs.Prelude.{◌≡◌, ℕ, ◌+◌, ◌*◌, ◌<◌, ◌≤◌, ◌⊎◌, Bool, true, false, ◌&&◌, List, [], ◌∷◌, ◌++◌, length, Option, Some}
+-- What a partner did in a stretch of rounds at its side of the rings.
+use Rattle.std.specs.Prelude.{◌≡◌, ◌+◌, ◌*◌, ◌≤◌, Bool, true, false, ◌&&◌, List, [], ◌∷◌, ◌++◌, length, Option, Some}
 use Rattle.std.specs.Bool.{OnTrue}
 use Rattle.uring_base.specs.declared.events.Taken.{Taken}
 use Rattle.uring_base.specs.declared.events.Completion.{Completion}
@@ -36,9 +36,9 @@ module _ {W : Type 0} (m : Machine W) where
       (u v : Bool) (k l n : Option (List LogEvent)) (a b c : Option (State W)) (ts us : List Taken) (cs ds : List Completion)
       → Serving m u k l a b ts cs → Serving m v l n b c us ds → Serving m (u && v) k n a c (ts ++ us) (cs ++ ds)
 
-  -- a stretch without a look is unbroken, and leaves log and state as they were
-  abbrev pub NoLookServes : Type 0
-  NoLookServes = (log : Option (List LogEvent)) (state : Option (State W)) → Serving m true log log state state [] []
+  -- a stretch without a round is unbroken, and leaves log and state as they were
+  abbrev pub NoRoundServes : Type 0
+  NoRoundServes = (log : Option (List LogEvent)) (state : Option (State W)) → Serving m true log log state state [] []
 
   -- Each turn that works has a take or a settling of its own, and each entry that was pending or is taken settles at most once.
   abbrev pub WorkingTurnsAreFew : Type 0

@@ -37,7 +37,7 @@ pub record TwoSides (kept : Completion → Completion) (entries offered ts : Lis
   pub unreaped : List Completion
   pub posts : map kept cs ≡ reaped ++ unreaped
 
--- what these completions alone say, to a user that has started so many jobs
+-- what a user knows that has started so many jobs, and has reaped nothing
 abbrev pub started_all : ℕ → Seen
 started_all n = record { taken = 0; started = n; ended = [] }
 
@@ -52,9 +52,9 @@ pub record IsAllDone {W : Type 0} (Plain : W → Type 0) (kept : Completion → 
   pub reaped_all : map kept (posted ms) ≡ reaped
   pub idle : IsPlainAndIdle Plain b
 
--- The moves are explained, and no post of them is strange; nor was a reaped one to a user that has started the offered jobs.
--- Where each job is answered by what was reaped, and only there, all is done; then the replay is whole. An unbroken run has at
--- most two turns a job.
+-- The moves are explained, and none of their posts is strange; nor is one that was reaped, to a user that has started the offered
+-- jobs. Where each job is answered by what was reaped, and only there, all is done; then the replay is whole. An unbroken run has
+-- at most two turns a job.
 pub record OneRun {W : Type 0} (view : W → Files) (Plain : W → Type 0) (lends : ℕ → Bool) (jobs : List Job) (kept : Completion → Completion) (entries offered : List Taken) (reaped : List Completion) (unbroken : Bool) (a b : State W) (ms : List Move) : Type 0 where
   pub explained : Explained jobs (view a.world) a.choices ms (viewed view b)
   pub honest : first_strange lends (quiets_of jobs) nothing_seen (log_of ms) ≡ None
@@ -63,7 +63,8 @@ pub record OneRun {W : Type 0} (view : W → Files) (Plain : W → Type 0) (lend
   pub answered : IsAllDone Plain kept entries offered reaped b ms → AllAnswered jobs reaped
   pub few : OnTrue unbroken (turns ms ≤ 2 * length jobs)
 
--- The law, of a machine over any world: what a partner that began plain and idle did over the entries of these jobs is one run.
+-- The law, of a machine over any world: what a partner that began idle in a plain world did over the entries of these jobs is one
+-- run, and so it is at each moment at which the sides meet.
 abbrev pub TwoSidesAreOneRun : {W : Type 0} → Machine W → (W → Files) → (W → Type 0) → Type 0
 TwoSidesAreOneRun {W = W} m view Plain =
     (lends : ℕ → Bool) (jobs : List Job) (kept : Completion → Completion) (entries offered ts : List Taken) (cs reaped : List Completion) (unbroken : Bool) (log log' : Option (List LogEvent)) (a b : State W)

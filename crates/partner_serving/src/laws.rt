@@ -1,7 +1,7 @@
-//! Laws of what a partner did in a stretch of looks, each the contract of a function that does
+//! Laws of what a partner did in a stretch of rounds, each the contract of a function that does
 //! nothing.
 
-ghost use Rattle.partner_serving.specs.Serving.{ServingsJoin, NoLookServes, WorkingTurnsAreFew, UnbrokenTurnsAreFew};
+ghost use Rattle.partner_serving.specs.Serving.{ServingsJoin, NoRoundServes, WorkingTurnsAreFew, UnbrokenTurnsAreFew};
 ghost use Rattle.partner_serving.specs.Rounds.{DueTurnsWork};
 ghost use Rattle.partner_serving.specs.TwoSides.{TwoSidesAreOneRun};
 
@@ -14,7 +14,7 @@ use uring_model::laws::{
 /// Stretches in a row are one, and none at all is an unbroken one.
 pub fn servings_join<P: Partner>()
     ensures join { ServingsJoin P.machine }
-    ensures none { NoLookServes P.machine }
+    ensures none { NoRoundServes P.machine }
 {
     moves_join();
     world_laws::<P>();

@@ -1,4 +1,4 @@
-//! How a partner is served at its side of the rings, look by look.
+//! How a partner is served at its side of the rings, round by round.
 #![tactic(auto)]
 
 pub mod laws;

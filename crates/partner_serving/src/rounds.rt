@@ -1,4 +1,4 @@
-//! One look of a memory partner at its side of the rings.
+//! One round of a memory partner at its side of the rings.
 
 ghost use Rattle.std.specs.Prelude.{◌≡◌, ◌≤◌, ◌⊎◌, List, [], length, false, Ok, IfOk, IfErr, IfSome, OnOk, IsTrue, Contains, is_ok};
 ghost use Rattle.uring_base.specs.declared.events.Taken.{Taken};
@@ -7,7 +7,7 @@ ghost use Rattle.uring_base.specs.Causes.{HasCause};
 ghost use Rattle.ring_traits.specs.Lists.{room_of};
 ghost use Rattle.partner_traits.specs.Calls.{IsPlannedFailure, KeepsErrno, is_fault};
 ghost use Rattle.uring_partner.specs.Told.{state_of, told_log, told_state, told_plan, told_faults, told_errno};
-ghost use Rattle.partner_serving.specs.Rounds.{MemoryServing, TellsDue, IsLook, plan_after};
+ghost use Rattle.partner_serving.specs.Rounds.{MemoryServing, TellsDue, IsRound, plan_after};
 
 use crate::laws::due_turns_work;
 use partner_traits::{EnterCall, Partner, PartnerError};
@@ -31,9 +31,9 @@ fn is_due<Q: PartnerSide>(partner: &MemoryPartner, side: &mut Q, published: u32)
     published != 0 || partner.pending() != 0 && side.room() != 0
 }
 
-/// One look at the side and at most one enter, over all that is published. It waits for nobody.
-/// Answers whether it entered: it does where an entry is published, or where one is taken and
-/// unsettled and the side has room.
+/// One round: a look at the side, and at most one enter over all that is published. It waits for
+/// nobody. Answers whether it entered: it does where an entry is published, or where one is taken
+/// and unsettled and the side has room.
 pub fn serve_round<Q: PartnerSide>(
     alloc: Global,
     side: &mut Q,
@@ -41,7 +41,7 @@ pub fn serve_round<Q: PartnerSide>(
 ) -> Result<bool, PartnerError>
     ensures served { (ts : List Taken) × (cs : List Completion) × Q.moved side.old ts cs side.new
         × (s : MemoryServing (is_ok result) partner.old partner.new ts cs)
-        × IsLook result (state_of partner.old) (Q.ready side.old) (Q.space side.old) (Q.lists side.old) s.moves
+        × IsRound result (state_of partner.old) (Q.ready side.old) (Q.space side.old) (Q.lists side.old) s.moves
         × OnOk result (Q.ready side.old ≤ length ts) }
     ensures emptied { OnOk result (IfSome (Q.lists side.new) (λ l. l.published ≡ [])) }
     ensures resting { IfOk result (λ entered. entered ≡ false → (partner.new ≡ partner.old) × Q.moved side.old [] [] side.new) }

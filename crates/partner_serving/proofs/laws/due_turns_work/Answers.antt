@@ -1,4 +1,4 @@
-use Rattle.partner_serving.proofs.Looks.{due_turns}
+use Rattle.partner_serving.proofs.Enters.{due_turns}
 use Rattle.partner_serving.proofs.laws.due_turns_work.Goals as goal
 
 pub returns : goal.returns

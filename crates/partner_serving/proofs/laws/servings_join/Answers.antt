@@ -1,8 +1,8 @@
-use Rattle.partner_serving.proofs.Servings.{servings_join, no_look_serves}
+use Rattle.partner_serving.proofs.Servings.{servings_join, no_round_serves}
 use Rattle.partner_serving.proofs.laws.servings_join.Goals as goal
 
 pub returns : goal.returns
 returns g c = record {
   join = servings_join g.P.Partner.machine c.moves_join.ensures.join c.world_laws.ensures.join;
-  none = no_look_serves g.P.Partner.machine c.moves_join.ensures.none c.world_laws.ensures.stay;
+  none = no_round_serves g.P.Partner.machine c.moves_join.ensures.none c.world_laws.ensures.stay;
 }

@@ -1,9 +1,9 @@
-use Rattle.std.proofs.Common.{◌≡◌, ◌≤◌, ◌∙◌, min, [], refl, sym, subst, false, true, arith, inr}
+use Rattle.std.proofs.Common.{◌≡◌, min, [], refl, sym, subst, false, true, arith, inr}
 use Rattle.uring_model.specs.Moves.{took, posted}
 use Rattle.uring_model.specs.Partner.{file_machine}
 use Rattle.partner_traits.specs.Calls.{IsTurnOver}
 use Rattle.uring_partner.specs.Told.{state_of, told_log, told_state}
-use Rattle.partner_serving.proofs.Looks.{serving_of, at_most_one, no_enter, turn_before, due_before, none_published, turn_takes}
+use Rattle.partner_serving.proofs.Enters.{serving_of, at_most_one, no_enter, turn_before, due_before, none_published, turn_takes}
 use Rattle.partner_serving.proofs.rounds.serve_round.Goals as goal
 
 -- the look moves nothing
