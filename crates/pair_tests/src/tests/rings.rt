@@ -1,5 +1,6 @@
 //! Both kinds of rings on one thread.
 
+use std::process::Abort;
 use std::test::Fail;
 use uring_base::Completion;
 use uring_base::squeue::Entry;
@@ -7,6 +8,7 @@ use uring_shared::{Met, PartnerSide, SharedPair, SharedRing, SharedRings, UserEn
 
 /// Each call that can find no memory answers otherwise where there is memory.
 #[test]
+#[tactic(auto, unfolding(ring_core::specs::Positions::is_ring_size))]
 fn each_call(rt: HostRuntime) -> Result<(), Fail> {
     let rings = SharedRings::new(rt.alloc(), 4, 8, 9)?;
     assert_eq!(rt; (rings.capacity(), rings.completion_capacity()), (4, 8));
@@ -32,8 +34,20 @@ fn answer(number: u64) -> Completion {
     }
 }
 
+/// Asserts that a completion of this number came, of which the ring kept no further numbers.
+fn assert_reaped(rt: &impl Abort, completion: Option<Completion>, number: u64) {
+    match completion {
+        Some(completion) => {
+            assert_eq!(rt; completion.user_data, number);
+            assert_eq!(rt; completion.big, [0; 2]);
+        }
+        None => assert!(rt; false, "nothing to reap"),
+    }
+}
+
 /// One thread with both sides, from a start at which the positions wrap.
 #[test]
+#[tactic(auto, unfolding(ring_core::specs::Positions::is_ring_size))]
 fn one_thread_with_both_sides(rt: HostRuntime) -> Result<(), Fail> {
     let mut rings = SharedRings::new(rt.alloc(), 2, 4, 4294967295)?;
     assert!(rt; rings.offer(nop(1), None).is_ok());
@@ -48,13 +62,14 @@ fn one_thread_with_both_sides(rt: HostRuntime) -> Result<(), Fail> {
     assert!(rt; rings.reap().is_none());
     rings.refresh();
     assert!(rt; rings.offer(nop(3), None).is_ok());
-    assert_eq!(rt; rings.reap().map(|found| (found.user_data, found.big)), Some((1, [0; 2])));
+    assert_reaped(&rt, rings.reap(), 1);
     assert_eq!(rt; rings.places(), (2, 0));
     Ok(())
 }
 
 /// A pair whose sides are used one after the other.
 #[test]
+#[tactic(auto, unfolding(ring_core::specs::Positions::is_ring_size))]
 fn sides_that_meet(rt: HostRuntime) -> Result<(), Fail> {
     let (pair, engine, partner) = SharedPair::new(rt.alloc(), 2, 4, 0)?;
     let mut engine = engine.on(&pair);
@@ -74,6 +89,7 @@ fn sides_that_meet(rt: HostRuntime) -> Result<(), Fail> {
 
 /// A ring of numbers, from a start at which the positions wrap.
 #[test]
+#[tactic(auto, unfolding(ring_core::specs::Positions::is_ring_size))]
 fn a_ring_of_numbers(rt: HostRuntime) -> Result<(), Fail> {
     let (ring, mut send, mut take) = SharedRing::new(rt.alloc(), 2, 4294967295)?;
     assert_eq!(rt; send.put(&ring, 1u64), Ok(()));

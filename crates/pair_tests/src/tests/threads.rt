@@ -67,7 +67,7 @@ fn engine_side(pair: &SharedPair, seats: EngineSeats) -> (EngineSeats, u64)
     let mut ends = seats.on(pair);
     let mut offered = 0;
     let mut reaped = 0;
-    for _ in 0..LOOKS {
+    for _look in 0..LOOKS {
         if reaped == ALL {
             break;
         }
@@ -111,13 +111,13 @@ fn partner_side(pair: &SharedPair, seats: PartnerSeats) -> (PartnerSeats, u64)
     ensures { IsPartnerOf pair.now result.0 }
 {
     let mut ends = seats.on(pair);
-    let mut answered = 0;
-    for _ in 0..LOOKS {
+    let mut answered: u64 = 0;
+    for _look in 0..LOOKS {
         if answered == ALL {
             break;
         }
         if partner_looks(pair, &mut ends) {
-            answered += 1;
+            answered = answered.wrapping_add(1);
         } else {
             thread::yield_now();
         }
@@ -128,6 +128,7 @@ fn partner_side(pair: &SharedPair, seats: PartnerSeats) -> (PartnerSeats, u64)
 /// All entries go through a pair of 8 to another thread and are answered there, and their answers
 /// come back, each once and in order. The positions wrap in between.
 #[test]
+#[tactic(auto, unfolding(ring_core::specs::Positions::is_ring_size))]
 fn two_threads(rt: HostRuntime) -> Result<(), Fail> {
     let (pair, engine, partner) = SharedPair::new(rt.alloc(), 8, 8, 4294967290)?;
     let shared = &pair;
