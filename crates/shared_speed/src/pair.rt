@@ -11,10 +11,10 @@ use uring_shared::{EngineEnds, PartnerEnds, PartnerSide, SharedError, SharedPair
 const FEW: u64 = 64;
 
 /// How often a side tells the processor that it waits, before it looks again.
-const MOMENT: u32 = 100;
+const MOMENT: u32 = 50;
 
 /// How many looks in a row may find nothing before the thread lets others run.
-const LOOKS: u32 = 100;
+const LOOKS: u32 = 4;
 
 fn no_memory(_error: SharedError) -> io::Error {
     io::Error::from(io::ErrorKind::OutOfMemory)
