@@ -5,6 +5,7 @@ use Rattle.uring_base.specs.declared.events.Completion.{Completion}
 use Rattle.uring_base.specs.Completions.{without_big}
 use Rattle.ring_traits.specs.Lists.{Advances}
 use Rattle.ring_shared.specs.Ends.{IsSeatOf, SameSender, SameTaker, sent, published_items, head_loaded, send_capacity, put_place, seen, taken, taken_items, head_published, take_capacity, take_place}
+use Rattle.ring_shared.specs.StateParts.{AreInState, state_of}
 use Rattle.uring_shared.specs.declared.pair.SharedPair.{SharedPair}
 use Rattle.uring_shared.specs.declared.seats.EngineSeats.{EngineSeats}
 use Rattle.uring_shared.specs.declared.seats.PartnerSeats.{PartnerSeats}
@@ -75,6 +76,14 @@ partner_ready seats = length (seen seats.take) - taken seats.take
 
 abbrev pub partner_space : PartnerSeats → ℕ
 partner_space seats = head_loaded seats.send + send_capacity seats.send - length (sent seats.send)
+
+-- all six positions of the submission ring, and of the completion ring, are those of one state of
+-- a core, in which items stand by numbers
+abbrev pub AreInOneEntryState : EngineSeats → PartnerSeats → Type 0
+AreInOneEntryState engine partner = (number : Taken → ℕ) → AreInState number (state_of number engine.send partner.take) engine.send partner.take
+
+abbrev pub AreInOneCompletionState : EngineSeats → PartnerSeats → Type 0
+AreInOneCompletionState engine partner = (number : Completion → ℕ) → AreInState number (state_of number partner.send engine.take) partner.send engine.take
 
 -- these entries were offered and these completions reaped
 pub record EngineUses (before : EngineSeats) (ts : List Taken) (cs : List Completion) (after : EngineSeats) : Type 0 where

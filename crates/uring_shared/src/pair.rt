@@ -5,7 +5,7 @@ ghost use Rattle.ring_core.specs.Positions.{is_ring_size};
 ghost use Rattle.uring_base.specs.declared.events.Taken.{Taken};
 ghost use Rattle.uring_base.specs.declared.events.Completion.{Completion};
 ghost use Rattle.uring_base.specs.declared.limits.TheConstants.{MAX_ENTRIES};
-ghost use Rattle.uring_shared.specs.Seats.{IsEngineOf, IsPartnerOf, entries_published, completions_seen, completions_reaped, entries_seen, entries_taken, completions_posted, IsNewEngine, IsNewPartner};
+ghost use Rattle.uring_shared.specs.Seats.{IsEngineOf, IsPartnerOf, entries_published, completions_seen, completions_reaped, entries_seen, entries_taken, completions_posted, IsNewEngine, IsNewPartner, AreInOneEntryState, AreInOneCompletionState};
 
 use crate::seats::{EngineSeats, PartnerSeats};
 use ring_shared::{Met, SharedError, SharedRing};
@@ -62,8 +62,10 @@ impl SharedPair {
         requires partner { IsPartnerOf self.now partner }
         ensures entries_seen { (rest : List Taken) × (entries_published engine ≡ entries_seen partner ++ rest) }
         ensures entries { (rest : List Taken) × (entries_published engine ≡ entries_taken partner ++ rest) × (length rest ≡ result.0.left) }
+        ensures entry_state { AreInOneEntryState engine partner }
         ensures completions_seen { (rest : List Completion) × (completions_posted partner ≡ completions_seen engine ++ rest) }
         ensures completions { (rest : List Completion) × (completions_posted partner ≡ completions_reaped engine ++ rest) × (length rest ≡ result.1.left) }
+        ensures completion_state { AreInOneCompletionState engine partner }
     {
         let EngineSeats {
             send: engine_send,
