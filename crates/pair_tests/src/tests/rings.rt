@@ -12,7 +12,10 @@ use uring_shared::{Met, PartnerSide, SharedPair, SharedRing, SharedRings, UserEn
 fn each_call(rt: HostRuntime) -> Result<(), Fail> {
     let rings = SharedRings::new(rt.alloc(), 4, 8, 9)?;
     assert_eq!(rt; (rings.capacity(), rings.completion_capacity()), (4, 8));
-    assert_eq!(rt; (rings.places(), rings.free(), rings.sq_flags()), ((9, 9), 4, 0));
+    assert_eq!(rt;
+        (rings.places(), rings.free(), rings.sq_flags()),
+        ((9, 9), 4, 0)
+    );
     let (pair, engine, _partner) = SharedPair::new(rt.alloc(), 8, 4, 7)?;
     let ends = engine.on(&pair);
     assert_eq!(rt; (ends.capacity(), ends.completion_capacity()), (8, 4));
@@ -56,7 +59,10 @@ fn one_thread_with_both_sides(rt: HostRuntime) -> Result<(), Fail> {
     assert_eq!(rt; rings.published(), 0);
     rings.publish();
     assert_eq!(rt; rings.published(), 2);
-    assert_eq!(rt; rings.take().map(|taken| taken.entry.get_user_data()), Some(1));
+    assert_eq!(rt;
+        rings.take().map(|taken| taken.entry.get_user_data()),
+        Some(1)
+    );
     assert!(rt; rings.post(answer(1)).is_ok());
     assert!(rt; rings.offer(nop(3), None).is_err());
     assert!(rt; rings.reap().is_none());
@@ -78,7 +84,10 @@ fn sides_that_meet(rt: HostRuntime) -> Result<(), Fail> {
     assert_eq!(rt; partner.published(), 0);
     engine.publish();
     assert_eq!(rt; partner.published(), 1);
-    assert_eq!(rt; partner.take().map(|taken| taken.entry.get_user_data()), Some(7));
+    assert_eq!(rt;
+        partner.take().map(|taken| taken.entry.get_user_data()),
+        Some(7)
+    );
     assert!(rt; partner.take().is_none());
     assert!(rt; partner.post(answer(7)).is_ok());
     assert_eq!(rt; partner.room(), 3);

@@ -45,7 +45,12 @@ fn reap_next(pair: &SharedPair, ends: &mut EngineEnds<'_>, number: u64) -> u64
 }
 
 /// One look of the engine: an entry is offered, and a completion reaped, where they can be.
-fn engine_looks(pair: &SharedPair, ends: &mut EngineEnds<'_>, offered: u64, reaped: u64) -> (u64, u64)
+fn engine_looks(
+    pair: &SharedPair,
+    ends: &mut EngineEnds<'_>,
+    offered: u64,
+    reaped: u64,
+) -> (u64, u64)
     requires { IsEngineOf pair.now (engine_of ends.old) }
     ensures { IsEngineOf pair.now (engine_of ends.new) }
 {
