@@ -19,7 +19,9 @@ with rings of 1, of 64 and of 32,768 entries; and three more kinds of scripts wi
 
 Where crates/ring_speed/out/ring_speed is there too, which `rt run` leaves there, it is run as well: a
 million entries through a pair of rings of 64, and as many items through two deques. So is
-crates/engine_speed/out/engine_speed: a million operations through an engine, in three ways.
+crates/engine_speed/out/engine_speed: a million operations through an engine, in three ways; and
+crates/shared_speed/out/shared_speed: ten million entries to another thread and back through a pair of
+rings of 1,024, and as many items through two channels of that bound.
 
 Each script is run N times (3, unless said), and the shortest time counts. A run that doesn't end with
 status 0, or whose report lacks a job or its end, stops the measuring with status 1. The goals are those of
@@ -46,6 +48,9 @@ GOAL_ENTRY_NANOSECONDS = 40.0
 GOAL_NUMBER_NANOSECONDS = 250.0
 GOAL_STATE_NANOSECONDS = 400.0
 GOAL_STATES_RATIO = 1.5
+GOAL_PAIR_NANOSECONDS = 60.0
+
+PAIR_ITEMS = 10_000_000
 
 RINGS = (1, 64, 32_768)
 
@@ -209,9 +214,9 @@ def measure_marked(program, folder, runs):
     return met
 
 
-def nanoseconds_of(program, names):
+def nanoseconds_of(program, names, words=()):
     """What the program says of each of its ways, in nanoseconds an item or an operation."""
-    run = subprocess.run([program], env={}, capture_output=True, text=True, check=True)
+    run = subprocess.run([program, *words], env={}, capture_output=True, text=True, check=True)
     times = {name: float(number) for name, number in re.findall(r"^([\w ]+): ([0-9.]+) ns an (?:item|operation)$", run.stderr, re.M)}
     if set(times) != set(names):
         sys.exit(f"measure.py: {program} said {run.stderr!r}")
@@ -242,6 +247,20 @@ def measure_operations(program, runs):
     met = judge(middles["by number"] <= GOAL_NUMBER_NANOSECONDS, f"an operation by number: {middles['by number']:.1f} nanoseconds (goal: at most {GOAL_NUMBER_NANOSECONDS:.0f})")
     met &= judge(middles["64 states"] <= GOAL_STATE_NANOSECONDS, f"an operation as a state: {middles['64 states']:.1f} nanoseconds (goal: at most {GOAL_STATE_NANOSECONDS:.0f})")
     return judge(ratio <= GOAL_STATES_RATIO, f"32768 states at once: {ratio:.2f} times the time of 64 (goal: at most {GOAL_STATES_RATIO})") and met
+
+
+def measure_pair(program, runs):
+    """How long an entry takes to another thread and back through a pair of rings, beside an item through two channels."""
+    names = ("pair", "channels")
+    all_times = [nanoseconds_of(program, names, (str(PAIR_ITEMS),)) for _ in range(runs)]
+    middles = {}
+    for name in names:
+        times = sorted(times[name] for times in all_times)
+        middles[name] = times[runs // 2]
+        print(f"{name:12} {times[0]:.1f} to {times[-1]:.1f} nanoseconds an item, {middles[name]:.1f} in the middle")
+    pair, channels = middles["pair"], middles["channels"]
+    met = judge(pair <= GOAL_PAIR_NANOSECONDS, f"an entry to another thread and back: {pair:.1f} nanoseconds (goal: at most {GOAL_PAIR_NANOSECONDS:.0f})")
+    return judge(pair < channels, f"the same through two channels: {channels:.1f} nanoseconds (goal: more than through the rings)") and met
 
 
 def judge(ok, text):
@@ -279,6 +298,9 @@ def main():
     engine_speed = os.path.join(here(), "crates", "engine_speed", "out", "engine_speed")
     if os.access(engine_speed, os.X_OK):
         met &= measure_operations(engine_speed, max(words.runs, 5))
+    shared_speed = os.path.join(here(), "crates", "shared_speed", "out", "shared_speed")
+    if os.access(shared_speed, os.X_OK):
+        met &= measure_pair(shared_speed, max(words.runs, 5))
     sys.exit(0 if met else 1)
 
 

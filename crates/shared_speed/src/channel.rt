@@ -34,9 +34,9 @@ impl<T: Drop> Channel<T> {
 
     /// The item in front. It waits while the channel is empty.
     pub(crate) fn receive<R: Wait>(&self, rt: &R) -> Option<T> {
-        let mut queue =
-            self.filled
-                .wait_while(rt, self.queue.lock(rt), |queue| queue.len() == 0);
+        let mut queue = self
+            .filled
+            .wait_while(rt, self.queue.lock(rt), |queue| queue.len() == 0);
         let item = queue.pop_front();
         drop(queue);
         self.emptied.notify_one();

@@ -72,7 +72,11 @@ fn answerer_side<R: Wait>(rt: &R, channels: &Channels, items: u64) {
 }
 
 /// So many items through two channels, between two threads.
-pub(crate) fn pass<R: Threads + Wait + Sync>(rt: &R, alloc: Global, items: u64) -> io::Result<Passed> {
+pub(crate) fn pass<R: Threads + Wait + Sync>(
+    rt: &R,
+    alloc: Global,
+    items: u64,
+) -> io::Result<Passed> {
     let channels = Channels {
         entries: Channel::new(alloc)?,
         completions: Channel::new(alloc)?,

@@ -9,14 +9,10 @@ mod channel;
 mod channels;
 mod pair;
 
-use std::alloc::Global;
-use std::sync::Wait;
-use std::thread::Threads;
 use std::time::{Duration, Instant};
 use std::{env, fmt, io};
-use uring_base::Completion;
 use uring_base::squeue::Entry;
-use uring_base::Taken;
+use uring_base::{Completion, Taken};
 
 /// How many items are on their way at the most.
 pub(crate) const BOUND: u32 = 1024;

@@ -114,7 +114,11 @@ fn partner_side<R: Wait>(rt: &R, mut ends: PartnerEnds<'_>, items: u64) {
 
 /// So many items through a pair, each side of which is on a thread of its own.
 #[tactic(auto, unfolding(ring_core::specs::Positions::is_ring_size))]
-pub(crate) fn pass<R: Threads + Wait + Sync>(rt: &R, alloc: Global, items: u64) -> io::Result<Passed> {
+pub(crate) fn pass<R: Threads + Wait + Sync>(
+    rt: &R,
+    alloc: Global,
+    items: u64,
+) -> io::Result<Passed> {
     let (pair, engine, partner) = SharedPair::new(alloc, BOUND, BOUND, 0).map_err(no_memory)?;
     let engine = engine.on(&pair);
     let partner = partner.on(&pair);

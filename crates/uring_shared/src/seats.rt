@@ -21,7 +21,7 @@ pub struct PartnerSeats {
     pub(crate) take: TakeEnd<Taken>,
     pub(crate) send: SendEnd<Completion>,
     // what it takes it gives back at once
-    pub(crate) ghost given_back: { head_published take ≡ taken take },
+    ghost given_back: { head_published take ≡ taken take },
     // what it posts it shows at once
-    pub(crate) ghost shown: { published_items send ≡ sent send },
+    ghost shown: { published_items send ≡ sent send },
 }
