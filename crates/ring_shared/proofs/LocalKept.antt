@@ -64,7 +64,7 @@ module _ {T : Type 0} (v : SeatView T) (x y : List T) (h : List (ℕ × Option T
   length_put : length X ≡ length x
   length_put = length_slots_from c v.start (length v.published) (map Some x) ∙ length-map x Some
 
-  -- ---- put
+  -- put
   pub put_turned : (count : ℕ) → count ≡ length v.seen - v.head + length x → s < v.limit → turned_times count h ≡ (slot_at c v.start s, None) ∷ (F' ++ (E ++ Y ++ X))
   put_turned count e lt = ap (turned_times count) (K.held ∙ sym (append_assoc (E ++ Y) X F)) ∙ turned_by count (E ++ Y ++ X) F (omega (arith, e, length-append (E ++ Y) X, length_front, length_put))
       ∙ ap (λ (m : ℕ). slots_from c v.start s (replicate m None) ++ (E ++ Y ++ X)) (let q : v.limit - s ≡ suc (v.limit - s - 1) = omega arith in q)
@@ -98,7 +98,7 @@ module _ {T : Type 0} (v : SeatView T) (x y : List T) (h : List (ℕ × Option T
         ((λ j. slots_from c v.start ((let e : suc s ≡ length v.published + length (x ++ item ∷ []) = omega arith in e) j) (replicate ((let e : v.limit - s - 1 ≡ v.limit - (length v.published + length (x ++ item ∷ [])) = omega arith in e) j) None)));
   }
 
-  -- ---- publish
+  -- publish
   module _ (u : Me (Option T) (SeatView T)) (count : ℕ) (e : count ≡ length v.seen - v.head) (is : u ≡ (v, turned_times count h)) where
     before : u ≡ (v, X ++ (F ++ (E ++ Y)))
     before = is ∙ ap (λ l. (v, l)) (ap (turned_times count) K.held ∙ turned_by count (E ++ Y) (X ++ F) (e ∙ sym length_front) ∙ append_assoc X F (E ++ Y))
@@ -137,7 +137,7 @@ module _ {T : Type 0} (v : SeatView T) (x y : List T) (h : List (ℕ × Option T
       held = ap (λ (q : ℕ). E ++ Y ++ slots_from c v.start q (replicate (v.limit - q) None)) (let e : s ≡ length (v.published ++ x) + 0 = omega arith in e);
     }
 
-  -- ---- refresh of the head
+  -- refresh of the head
   pub head_seat : (r : ℕ) (u w : Me (Option T) (SeatView T)) → loaded_head (v, h) r u → (count : ℕ) → count ≡ v.head + c - v.limit → w ≡ (u.0, turned_times count u.1)
       → w ≡ (record v { limit = v.head + c }, E ++ Y ++ (X ++ F) ++ slots_from c v.start v.limit (replicate (v.head + c - v.limit) None))
   head_seat r u w told count e is = let d : told.0 ≡ v.head = told.5 K.takes in
@@ -178,7 +178,7 @@ module _ {T : Type 0} (v : SeatView T) (x y : List T) (h : List (ℕ × Option T
   pub waits : drop at v.published ≡ y ++ drop (length v.seen) v.published
   waits = ap (drop at) split_sent ∙ drop_longer v.seen (drop (length v.seen) v.published) at (omega arith) ∙ ap (λ l. l ++ drop (length v.seen) v.published) K.ahead
 
-  -- ---- take
+  -- take
   module _ (b : T) (ys : List T) (is : y ≡ b ∷ ys) where
     abbrev pub Y' : List (ℕ × Option T)
     Y' = slots_from c v.start (suc at) (map Some ys)
@@ -220,7 +220,7 @@ module _ {T : Type 0} (v : SeatView T) (x y : List T) (h : List (ℕ × Option T
     take_waits = let ly : length y ≡ suc (length ys) = ap length is in let a = K.inside in let q : at + 1 ≡ length v.seen - length ys = omega arith in
         let all = waits ∙ ap (λ l. l ++ drop (length v.seen) v.published) is in all ∙ ap (λ l. b ∷ l) (sym (dropped v.published at b (ys ++ drop (length v.seen) v.published) all).0 ∙ ap (λ (z : ℕ). drop z v.published) q)
 
-  -- ---- publish of the head
+  -- publish of the head
   release_hand : h ≡ slots_from v.capacity v.start v.head (replicate (at - v.head) None) ++ (Y ++ (X ++ F))
   release_hand = K.held ∙ append_assoc E Y (X ++ F) ∙ (λ i. slots_from (sym K.same i) v.start v.head (replicate (at - v.head) None) ++ (Y ++ (X ++ F)))
 
@@ -255,7 +255,7 @@ module _ {T : Type 0} (v : SeatView T) (x y : List T) (h : List (ℕ × Option T
     held = ap (λ (z : ℕ). slots_from c v.start (v.head + (at - v.head)) (replicate z None) ++ Y ++ (X ++ F)) (let q : 0 ≡ at - (v.head + (at - v.head)) = omega arith in q);
   }
 
-  -- ---- refresh of the tail
+  -- refresh of the tail
   module _ (u : Me (Option T) (SeatView T)) (count : ℕ) (e : count ≡ length v.seen - v.head) (is : u ≡ (v, turned_times count h)) where
     ready : u ≡ (v, X ++ F ++ (E ++ Y))
     ready = is ∙ ap (λ l. (v, l)) (ap (turned_times count) K.held ∙ turned_by count (E ++ Y) (X ++ F) (e ∙ sym length_front))
@@ -293,7 +293,7 @@ module _ {T : Type 0} (v : SeatView T) (x y : List T) (h : List (ℕ × Option T
         ((ap (λ (z : ℕ). Y ++ slots_from c v.start z (map Some xs)) (let q : length v.seen ≡ at + length (map Some y) = omega (arith, length-map y Some) in q) ∙ sym (slots_from_append c v.start at (map Some y) (map Some xs)) ∙ (λ j. slots_from c v.start (same_at j) (sym (map_append Some y xs) j))) i)));
   }
 
--- ---- a new ring
+-- a new ring
 pub new_on : {T : Type 0} (c start : ℕ) → IsSize c → start < 4294967296 → LocalHolds {T = T} (record (first_view start c) { limit = c }) [] [] (slots_from c start 0 (replicate c None)) c start start start start start start
 new_on c start size lt = let w = sym (position_start start lt) in record {
   size = size;

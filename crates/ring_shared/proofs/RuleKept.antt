@@ -47,7 +47,7 @@ module _ {T : Type 0} where
       (λ e. (w, ap (get_elem? (set views id w)) e ∙ set_here views id w (at_lt views id v at), keeps_it (ap has (maybe.some-injective v st.0 (sym at ∙ ap (get_elem? views) (sym e) ∙ st.1)) ∙ st.2)))
       (λ ne. (st.0, set_else views id j w ne ∙ st.1, st.2))
 
-  -- ---- the sender publishes
+  -- the sender publishes
   module _ (s : State (Option T) (SeatView T)) (r : RuleHolds s) (id : ℕ) (v : SeatView T) (xs : List T) (held : List (ℕ × Option T)) (new : ℕ) (at : get_elem? s.views id ≡ some v) (part : v.sends ≡ true)
       (fits : length v.published + length xs ≤ v.limit) (near : length xs ≤ v.capacity) (is : new ≡ position_at v.start (length v.published + length xs)) where
     abbrev d : RingParts T
@@ -115,7 +115,7 @@ module _ {T : Type 0} where
             (ap (λ l. carried_after l a) h ∙ carried_gives c z rest (length r.parts.published) (map Some xs) ∙ sym (ap empty_slots held ∙ empty_held m.0.capacity m.0.start (length m.0.published) q n xs)),
       )
 
-  -- ---- the sender loads the head
+  -- the sender loads the head
   pub gains : (slots id : ℕ) (m : Me (Option T) (SeatView T)) → m.0.sends ≡ true → Allows RuleHolds slots id m 1 (λ n. n) (loaded_head m)
   gains slots id m part = λ s r len at lt.
       let f = (r.seats id m.0 at).as_sender part in let c : ℕ = r.parts.capacity in let z : ℕ = r.parts.start in let t : ℕ = length r.parts.published in let l : ℕ = r.parts.limit in
@@ -158,7 +158,7 @@ module _ {T : Type 0} where
         ),
       )
 
-  -- ---- the taker gives emptied slots back
+  -- the taker gives emptied slots back
   pub empty_back : (c z p q n : ℕ) (xs : List T) → empty_slots (slots_from c z p (replicate n None) ++ slots_from c z q (map Some xs)) ≡ slots_from c z p (replicate n None)
   empty_back c z p q n xs = empty_append (slots_from c z p (replicate n None)) (slots_from c z q (map Some xs)) ∙ ap₂ (λ a b. a ++ b) (empty_empty c z p n) (empty_full c z q xs) ∙ append-nil (slots_from c z p (replicate n None))
 
@@ -221,7 +221,7 @@ module _ {T : Type 0} where
             (ap (λ g. carried_after g a) h ∙ carried_gives c z rest b ys ∙ sym (ap full_slots held ∙ full_back m.0.capacity m.0.start m.0.head q n xs)),
       )
 
-  -- ---- the two stores again, by how far the word goes on
+  -- the two stores again, by how far the word goes on
   pub publishes_local : (slots id : ℕ) (m : Me (Option T) (SeatView T)) (xs : List T) (new : ℕ) (rest : List (ℕ × Option T)) → m.0.sends ≡ true → length m.0.published + length xs ≤ m.0.limit → length xs ≤ m.0.capacity
       → new ≡ position_at m.0.start (length m.0.published + length xs) → m.1 ≡ slots_from m.0.capacity m.0.start (length m.0.published) (map Some xs) ++ rest
       → Allows RuleHolds slots id m 0 (λ _. new) (λ _. stored_local_tail new m)
@@ -282,7 +282,7 @@ module _ {T : Type 0} where
       told ∙ ap₂ (λ (k : ℕ) (l : List (ℕ × Option T)). (record m.0 { head = m.0.head + k }, l)) many
       (ap (λ (k : ℕ). drop k m.1) many ∙ ap (drop n) held ∙ drop_at front rest n wide)
 
-  -- ---- the taker loads the tail
+  -- the taker loads the tail
   pub fills : (slots id : ℕ) (m : Me (Option T) (SeatView T)) → m.0.takes ≡ true → Allows RuleHolds slots id m 0 (λ n. n) (loaded_tail m)
   fills slots id m part = λ s r len at lt.
       let f = (r.seats id m.0 at).as_taker part in let c : ℕ = r.parts.capacity in let z : ℕ = r.parts.start in let b : ℕ = r.parts.head in
@@ -329,7 +329,7 @@ module _ {T : Type 0} where
   only a b zero e = (refl, maybe.some-injective a b e)
   only a b (suc i) e = absurd (maybe.some-ne-none b (sym e))
 
-  -- ---- the taker's part goes to a new seat
+  -- the taker's part goes to a new seat
   pub splits : (id : ℕ) (v : SeatView T) → v.takes ≡ true → Splits RuleHolds id v (without_taker v) (without_sender v)
   splits id v part = λ s r at.
       let f = (r.seats id v at).as_taker part in
@@ -360,7 +360,7 @@ module _ {T : Type 0} where
         prefix = r.prefix;
       }
 
-  -- ---- the sender takes in the taker's part
+  -- the sender takes in the taker's part
   pub joins : (id other : ℕ) (v w : SeatView T) → v.sends ≡ true → w.takes ≡ true → Joins RuleHolds id v other w (joined v w) spent_view
   joins id other v w sends takes = λ s r at apart there.
       let f = (r.seats id v at).as_sender sends in
@@ -390,7 +390,7 @@ module _ {T : Type 0} where
         prefix = r.prefix;
       }
 
-  -- ---- who has both parts is told that what was seen is a front of what was published
+  -- who has both parts is told that what was seen is a front of what was published
   pub compares : (slots id : ℕ) (m : Me (Option T) (SeatView T)) → m.0.sends ≡ true → m.0.takes ≡ true → Allows RuleHolds slots id m 0 (λ n. n) (compared m)
   compares slots id m sends takes = λ s r len at lt.
       let f = (r.seats id m.0 at).as_sender sends in let g = (r.seats id m.0 at).as_taker takes in (
@@ -402,7 +402,7 @@ module _ {T : Type 0} where
         (refl, r.tail_word ∙ ap₂ position_at (sym f.1) (ap length (sym f.3)), (let o = r.order.published in let p = r.order.gained in omega (arith, ap length f.3, g.4, f.2)), (let p = r.order.gained in omega (arith, f.4, g.4, f.2)), (r.prefix.0, f.3 ∙ r.prefix.1 ∙ ap (λ k. k ++ r.prefix.0) (sym g.3))),
       )
 
-  -- ---- the rule at the start
+  -- the rule at the start
   pub opens : (c start a b : ℕ) → IsSize c → a ≡ position_at start 0 → b ≡ position_at start 0 → RuleHolds (opening (a ∷ b ∷ []) (replicate c None) (first_view {T = T} start c))
   opens c start a b size is_a is_b = record {
     parts = record { start = start; capacity = c; sender = 0; taker = 0; published = []; limit = 0; seen = []; head = 0 };

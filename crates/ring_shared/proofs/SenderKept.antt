@@ -103,7 +103,7 @@ unfolding Opens
 no_item i j x l m e = subst Opens (sym e) tt
 
 module _ {T : Type 0} where
-  -- the step of `publish`, at the seat n, which is the end's own after its turned_times
+  -- the step of `publish`, at the seat n, which is the end's own after its turns
   pub may_publish : (slots id : ℕ) (n : Me (Option T) (SeatView T)) (v : SeatView T) (x : List T) (h : List (ℕ × Option T)) (c m a b free : ℕ) → SenderHolds v x h c m a b → free ≡ v.limit - (length v.published + length x) → n ≡ (v, turned_times free h)
       → Allows RuleHolds slots id n 0 (λ _. m) (λ _. stored_tail n)
   may_publish slots id n v x h c m a b free k e is = let c0 = k.close in let c1 = k.fits in let c2 = k.same in
@@ -129,7 +129,7 @@ module _ {T : Type 0} where
         × (v.takes ≡ true → d ≡ v.head)
     told_of r u told = subst (λ z. loaded_head z r u) (is ∙ ap (λ l. (v, l)) (turned_on v x h c m a b k free e)) told
 
-    -- the seat after the second turned_times
+    -- the seat after the second turns
     pub refreshed_seat : (r : ℕ) (u w : Me (Option T) (SeatView T)) (told : loaded_head n r u) (count : ℕ) → count ≡ (told_of r u told).0 - (v.limit - c) + length x → w ≡ (u.0, turned_times count u.1)
         → w ≡ (record v { limit = (told_of r u told).0 + v.capacity }, slots_from c v.start (length v.published + length x) (replicate (v.limit - (length v.published + length x)) None) ++ (slots_from v.capacity v.start v.limit (replicate ((told_of r u told).0 + v.capacity - v.limit) None) ++ slots_from c v.start (length v.published) (map Some x)))
     refreshed_seat r u w told count many at = let t = told_of r u told in let d : ℕ = t.0 in let c0 = k.loaded in let c1 = k.close in let c2 = k.same in let far = t.2 in

@@ -28,12 +28,16 @@ joined v w = record w { sends = true; published = v.published; limit = v.limit }
 
 -- how a ring stands: which seats have the two parts, and what each part knows
 pub record RingParts (T : Type 0) : Type 0 where
+  -- the position from which places are counted
   pub start : ℕ
   pub capacity : ℕ
+  -- the numbers of the two seats
   pub sender : ℕ
   pub taker : ℕ
+  -- what was published, and the place up to which the sender gained slots
   pub published : List T
   pub limit : ℕ
+  -- what the taker saw, and how many slots it gave back
   pub seen : List T
   pub head : ℕ
 
@@ -67,7 +71,7 @@ module _ {T : Type 0} where
     -- there is a seat with each part
     pub a_sender : HasPart (λ v. v.sends) s.views parts.sender
     pub a_taker : HasPart (λ v. v.takes) s.views parts.taker
-    -- each published position that the taker hasn't seen has its value at home
+    -- each published item that the taker hasn't seen is at home, in the slot of its place
     pub full : (p : ℕ) (x : T) → length parts.seen ≤ p → get_elem? parts.published p ≡ some x → get_elem? s.homes (slot_at parts.capacity parts.start p) ≡ some (some (Some x))
     -- each slot that was given back and that the sender hasn't seen so is at home and empty
     pub empty : (p : ℕ) → parts.limit ≤ p → p < parts.head + parts.capacity → get_elem? s.homes (slot_at parts.capacity parts.start p) ≡ some (some None)
