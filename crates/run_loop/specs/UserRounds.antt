@@ -9,8 +9,8 @@ use Rattle.run_loop.specs.Entries.{all_taken}
 use Rattle.run_loop.specs.Slots.{slots_from, stranger_among, any_final}
 use Rattle.run_loop.specs.Rounds.{ReapEnds}
 
--- The rounds so far, by what was offered and what was reaped: these are the first entries, one for each started job; no
--- completion was strange to a user that had started these jobs; and the slots are those of the completions.
+-- The user's run so far: it offered the first of the offers' entries, one for each started job; none of the completions that it
+-- reaped was strange to a user that had started these jobs; and the slots are what the completions make of them.
 pub record UserRun (offers : List Offer) (offered todo : List Taken) (reaped : List Completion) (started : ℕ) (slots : List Slot) : Type 0 where
   pub entries : offered ++ todo ≡ all_taken offers
   pub started_is : started ≡ length offered
