@@ -40,7 +40,7 @@ module _ {T : Type 0} (v : SeatView T) (x y : List T) (h : List (ℕ × Option T
   F' = slots_from c v.start (suc s) (replicate (v.limit - s - 1) None)
 
   whole : items_of h ≡ y ++ x
-  whole = ap items_of K.hand ∙ items_append (E ++ Y) (X ++ F) ∙ ap₂ (λ a b. a ++ b)
+  whole = ap items_of K.held ∙ items_append (E ++ Y) (X ++ F) ∙ ap₂ (λ a b. a ++ b)
       (items_append E Y ∙ ap₂ (λ a b. a ++ b) (items_empty c v.start v.head (at - v.head)) (items_full c v.start at y))
       (items_held c v.start (length v.published) s (v.limit - s) x)
 
@@ -64,9 +64,9 @@ module _ {T : Type 0} (v : SeatView T) (x y : List T) (h : List (ℕ × Option T
   length_put : length X ≡ length x
   length_put = length_slots_from c v.start (length v.published) (map Some x) ∙ length-map x Some
 
-  -- ---- put
+  -- put
   pub put_turned : (count : ℕ) → count ≡ length v.seen - v.head + length x → s < v.limit → turned_times count h ≡ (slot_at c v.start s, None) ∷ (F' ++ (E ++ Y ++ X))
-  put_turned count e lt = ap (turned_times count) (K.hand ∙ sym (append_assoc (E ++ Y) X F)) ∙ turned_by count (E ++ Y ++ X) F (omega (arith, e, length-append (E ++ Y) X, length_front, length_put))
+  put_turned count e lt = ap (turned_times count) (K.held ∙ sym (append_assoc (E ++ Y) X F)) ∙ turned_by count (E ++ Y ++ X) F (omega (arith, e, length-append (E ++ Y) X, length_front, length_put))
       ∙ ap (λ (m : ℕ). slots_from c v.start s (replicate m None) ++ (E ++ Y ++ X)) (let q : v.limit - s ≡ suc (v.limit - s - 1) = omega arith in q)
 
   pub put_turned_back : (count i : ℕ) (item : T) → count ≡ v.limit - s - 1 → turned_times count (F' ++ (E ++ Y ++ X) ++ (i, Some item) ∷ []) ≡ E ++ Y ++ X ++ (i, Some item) ∷ [] ++ F'
@@ -92,16 +92,16 @@ module _ {T : Type 0} (v : SeatView T) (x y : List T) (h : List (ℕ × Option T
     head_is = K.head_is;
     tail_seen_is = K.tail_seen_is;
     ahead = K.ahead;
-    hand = ap (λ l. l ++ F') (append_assoc (E ++ Y) X ((i, Some item) ∷ [])) ∙ append_assoc (E ++ Y) (X ++ (i, Some item) ∷ []) F' ∙ ap₂ (λ (p q : List (ℕ × Option T)). E ++ Y ++ (p ++ q))
+    held = ap (λ l. l ++ F') (append_assoc (E ++ Y) X ((i, Some item) ∷ [])) ∙ append_assoc (E ++ Y) (X ++ (i, Some item) ∷ []) F' ∙ ap₂ (λ (p q : List (ℕ × Option T)). E ++ Y ++ (p ++ q))
         (ap (λ (j : ℕ). X ++ (j, Some item) ∷ []) is ∙ ap (λ (q : ℕ). X ++ (slot_at c v.start q, Some item) ∷ []) (let e : s ≡ length v.published + length (map Some x) = omega (arith, length-map x Some) in e)
         ∙ sym (slots_from_append c v.start (length v.published) (map Some x) (Some item ∷ [])) ∙ ap (slots_from c v.start (length v.published)) (sym (map_append Some x (item ∷ []))))
         ((λ j. slots_from c v.start ((let e : suc s ≡ length v.published + length (x ++ item ∷ []) = omega arith in e) j) (replicate ((let e : v.limit - s - 1 ≡ v.limit - (length v.published + length (x ++ item ∷ [])) = omega arith in e) j) None)));
   }
 
-  -- ---- publish
+  -- publish
   module _ (u : Me (Option T) (SeatView T)) (count : ℕ) (e : count ≡ length v.seen - v.head) (is : u ≡ (v, turned_times count h)) where
     before : u ≡ (v, X ++ (F ++ (E ++ Y)))
-    before = is ∙ ap (λ l. (v, l)) (ap (turned_times count) K.hand ∙ turned_by count (E ++ Y) (X ++ F) (e ∙ sym length_front) ∙ append_assoc X F (E ++ Y))
+    before = is ∙ ap (λ l. (v, l)) (ap (turned_times count) K.held ∙ turned_by count (E ++ Y) (X ++ F) (e ∙ sym length_front) ∙ append_assoc X F (E ++ Y))
 
     own_hand : X ++ (F ++ (E ++ Y)) ≡ slots_from v.capacity v.start (length v.published) (map Some x) ++ (F ++ (E ++ Y))
     own_hand = λ i. slots_from (sym K.same i) v.start (length v.published) (map Some x) ++ (F ++ (E ++ Y))
@@ -134,14 +134,14 @@ module _ {T : Type 0} (v : SeatView T) (x y : List T) (h : List (ℕ × Option T
       head_is = K.head_is;
       tail_seen_is = K.tail_seen_is;
       ahead = K.ahead;
-      hand = ap (λ (q : ℕ). E ++ Y ++ slots_from c v.start q (replicate (v.limit - q) None)) (let e : s ≡ length (v.published ++ x) + 0 = omega arith in e);
+      held = ap (λ (q : ℕ). E ++ Y ++ slots_from c v.start q (replicate (v.limit - q) None)) (let e : s ≡ length (v.published ++ x) + 0 = omega arith in e);
     }
 
-  -- ---- refresh of the head
+  -- refresh of the head
   pub head_seat : (r : ℕ) (u w : Me (Option T) (SeatView T)) → loaded_head (v, h) r u → (count : ℕ) → count ≡ v.head + c - v.limit → w ≡ (u.0, turned_times count u.1)
       → w ≡ (record v { limit = v.head + c }, E ++ Y ++ (X ++ F) ++ slots_from c v.start v.limit (replicate (v.head + c - v.limit) None))
   head_seat r u w told count e is = let d : told.0 ≡ v.head = told.5 K.takes in
-      is ∙ ap (λ z. (z.0, turned_times count z.1)) (told.4 ∙ (λ i. (record v { limit = d i + K.same i }, slots_from (K.same i) v.start v.limit (replicate (d i + K.same i - v.limit) None) ++ K.hand i)))
+      is ∙ ap (λ z. (z.0, turned_times count z.1)) (told.4 ∙ (λ i. (record v { limit = d i + K.same i }, slots_from (K.same i) v.start v.limit (replicate (d i + K.same i - v.limit) None) ++ K.held i)))
       ∙ ap (λ l. (record v { limit = v.head + c }, l)) (turned_by count (slots_from c v.start v.limit (replicate (v.head + c - v.limit) None)) (E ++ Y ++ (X ++ F)) (e ∙ sym (length_slots_from c v.start v.limit (replicate (v.head + c - v.limit) None) ∙ length-replicate (v.head + c - v.limit) None)))
 
   pub head_on : (m : ℕ) → m ≡ position_at v.start v.head → LocalHolds (record v { limit = v.head + c }) x y (E ++ Y ++ (X ++ F) ++ slots_from c v.start v.limit (replicate (v.head + c - v.limit) None)) c n t m k hd ts
@@ -163,7 +163,7 @@ module _ {T : Type 0} (v : SeatView T) (x y : List T) (h : List (ℕ × Option T
     head_is = K.head_is;
     tail_seen_is = K.tail_seen_is;
     ahead = K.ahead;
-    hand = append_assoc (E ++ Y) (X ++ F) (slots_from c v.start v.limit (replicate p None)) ∙ ap (λ l. E ++ Y ++ l) (append_assoc X F (slots_from c v.start v.limit (replicate p None))
+    held = append_assoc (E ++ Y) (X ++ F) (slots_from c v.start v.limit (replicate p None)) ∙ ap (λ l. E ++ Y ++ l) (append_assoc X F (slots_from c v.start v.limit (replicate p None))
         ∙ ap (λ l. X ++ l) (ap (λ (z : ℕ). F ++ slots_from c v.start z (replicate p None)) (let q : v.limit ≡ s + length {A = Option T} (replicate o None) = omega arith in q) ∙ sym (slots_from_append c v.start s (replicate o None) (replicate p None))
         ∙ ap (slots_from c v.start s) (sym (twice o p None) ∙ ap (λ (z : ℕ). replicate z None) (let q : o + p ≡ v.head + c - s = omega arith in q))));
   }
@@ -178,13 +178,13 @@ module _ {T : Type 0} (v : SeatView T) (x y : List T) (h : List (ℕ × Option T
   pub waits : drop at v.published ≡ y ++ drop (length v.seen) v.published
   waits = ap (drop at) split_sent ∙ drop_longer v.seen (drop (length v.seen) v.published) at (omega arith) ∙ ap (λ l. l ++ drop (length v.seen) v.published) K.ahead
 
-  -- ---- take
+  -- take
   module _ (b : T) (ys : List T) (is : y ≡ b ∷ ys) where
     abbrev pub Y' : List (ℕ × Option T)
     Y' = slots_from c v.start (suc at) (map Some ys)
 
     pub take_turned : (count : ℕ) → count ≡ at - v.head → turned_times count h ≡ (slot_at c v.start at, Some b) ∷ (Y' ++ (X ++ F) ++ E)
-    take_turned count e = ap (turned_times count) (K.hand ∙ append_assoc E Y (X ++ F)) ∙ turned_by count E (Y ++ (X ++ F)) (e ∙ sym (length_slots_from c v.start v.head (replicate (at - v.head) None) ∙ length-replicate (at - v.head) None))
+    take_turned count e = ap (turned_times count) (K.held ∙ append_assoc E Y (X ++ F)) ∙ turned_by count E (Y ++ (X ++ F)) (e ∙ sym (length_slots_from c v.start v.head (replicate (at - v.head) None) ∙ length-replicate (at - v.head) None))
         ∙ ap (λ l. slots_from c v.start at (map Some l) ++ (X ++ F) ++ E) is
 
     pub take_turned_back : (count i : ℕ) → count ≡ length ys + (v.limit - length v.published) → turned_times count (Y' ++ (X ++ F) ++ E ++ (i, None) ∷ []) ≡ E ++ (i, None) ∷ [] ++ (Y' ++ (X ++ F))
@@ -210,7 +210,7 @@ module _ {T : Type 0} (v : SeatView T) (x y : List T) (h : List (ℕ × Option T
       head_is = K.head_is;
       tail_seen_is = K.tail_seen_is;
       ahead = ap (λ (z : ℕ). drop z v.seen) one ∙ (dropped v.seen at b ys (K.ahead ∙ is)).0;
-      hand = sym (append_assoc (E ++ (i, None) ∷ []) Y' (X ++ F)) ∙ ap (λ l. l ++ (X ++ F)) (ap₂ (λ (p q : List (ℕ × Option T)). p ++ q)
+      held = sym (append_assoc (E ++ (i, None) ∷ []) Y' (X ++ F)) ∙ ap (λ l. l ++ (X ++ F)) (ap₂ (λ (p q : List (ℕ × Option T)). p ++ q)
           (ap (λ (j : ℕ). E ++ (j, None) ∷ []) where_it ∙ ap (λ (z : ℕ). E ++ (slot_at c v.start z, None) ∷ []) (let q : at ≡ v.head + length {A = Option T} (replicate e None) = omega arith in q)
           ∙ sym (slots_from_append c v.start v.head (replicate e None) (None ∷ [])) ∙ ap (slots_from c v.start v.head) (sym (twice e 1 None) ∙ ap (λ (z : ℕ). replicate z None) (let q : e + 1 ≡ length v.seen - length ys - v.head = omega arith in q)))
           (ap (λ (z : ℕ). slots_from c v.start z (map Some ys)) (let q : suc at ≡ length v.seen - length ys = omega arith in q)));
@@ -220,9 +220,9 @@ module _ {T : Type 0} (v : SeatView T) (x y : List T) (h : List (ℕ × Option T
     take_waits = let ly : length y ≡ suc (length ys) = ap length is in let a = K.inside in let q : at + 1 ≡ length v.seen - length ys = omega arith in
         let all = waits ∙ ap (λ l. l ++ drop (length v.seen) v.published) is in all ∙ ap (λ l. b ∷ l) (sym (dropped v.published at b (ys ++ drop (length v.seen) v.published) all).0 ∙ ap (λ (z : ℕ). drop z v.published) q)
 
-  -- ---- publish of the head
+  -- publish of the head
   release_hand : h ≡ slots_from v.capacity v.start v.head (replicate (at - v.head) None) ++ (Y ++ (X ++ F))
-  release_hand = K.hand ∙ append_assoc E Y (X ++ F) ∙ (λ i. slots_from (sym K.same i) v.start v.head (replicate (at - v.head) None) ++ (Y ++ (X ++ F)))
+  release_hand = K.held ∙ append_assoc E Y (X ++ F) ∙ (λ i. slots_from (sym K.same i) v.start v.head (replicate (at - v.head) None) ++ (Y ++ (X ++ F)))
 
   release_word : k ≡ position_at v.start (v.head + (at - v.head))
   release_word = let a = K.inside in K.taken_is ∙ ap (position_at v.start) (let q : at ≡ v.head + (at - v.head) = omega arith in q)
@@ -252,13 +252,13 @@ module _ {T : Type 0} (v : SeatView T) (x y : List T) (h : List (ℕ × Option T
     head_is = release_word;
     tail_seen_is = K.tail_seen_is;
     ahead = K.ahead;
-    hand = ap (λ (z : ℕ). slots_from c v.start (v.head + (at - v.head)) (replicate z None) ++ Y ++ (X ++ F)) (let q : 0 ≡ at - (v.head + (at - v.head)) = omega arith in q);
+    held = ap (λ (z : ℕ). slots_from c v.start (v.head + (at - v.head)) (replicate z None) ++ Y ++ (X ++ F)) (let q : 0 ≡ at - (v.head + (at - v.head)) = omega arith in q);
   }
 
-  -- ---- refresh of the tail
+  -- refresh of the tail
   module _ (u : Me (Option T) (SeatView T)) (count : ℕ) (e : count ≡ length v.seen - v.head) (is : u ≡ (v, turned_times count h)) where
     ready : u ≡ (v, X ++ F ++ (E ++ Y))
-    ready = is ∙ ap (λ l. (v, l)) (ap (turned_times count) K.hand ∙ turned_by count (E ++ Y) (X ++ F) (e ∙ sym length_front))
+    ready = is ∙ ap (λ l. (v, l)) (ap (turned_times count) K.held ∙ turned_by count (E ++ Y) (X ++ F) (e ∙ sym length_front))
 
     pub tail_told_of : (r : ℕ) (w : Me (Option T) (SeatView T)) → loaded_tail u r w → loaded_tail (v, X ++ F ++ (E ++ Y)) r w
     tail_told_of r w = subst (λ z. loaded_tail z r w) ready
@@ -289,11 +289,11 @@ module _ {T : Type 0} (v : SeatView T) (x y : List T) (h : List (ℕ × Option T
     head_is = K.head_is;
     tail_seen_is = is;
     ahead = ap (λ (z : ℕ). drop z (v.seen ++ xs)) (sym same_at) ∙ drop_longer v.seen xs at (omega arith) ∙ ap (λ l. l ++ xs) K.ahead;
-    hand = sym (append_assoc (E ++ Y) N (X ++ F)) ∙ ap (λ l. l ++ (X ++ F)) (append_assoc E Y N ∙ (λ i. slots_from c v.start v.head (replicate (same_at i - v.head) None) ++
+    held = sym (append_assoc (E ++ Y) N (X ++ F)) ∙ ap (λ l. l ++ (X ++ F)) (append_assoc E Y N ∙ (λ i. slots_from c v.start v.head (replicate (same_at i - v.head) None) ++
         ((ap (λ (z : ℕ). Y ++ slots_from c v.start z (map Some xs)) (let q : length v.seen ≡ at + length (map Some y) = omega (arith, length-map y Some) in q) ∙ sym (slots_from_append c v.start at (map Some y) (map Some xs)) ∙ (λ j. slots_from c v.start (same_at j) (sym (map_append Some y xs) j))) i)));
   }
 
--- ---- a new ring
+-- a new ring
 pub new_on : {T : Type 0} (c start : ℕ) → IsSize c → start < 4294967296 → LocalHolds {T = T} (record (first_view start c) { limit = c }) [] [] (slots_from c start 0 (replicate c None)) c start start start start start start
 new_on c start size lt = let w = sym (position_start start lt) in record {
   size = size;
@@ -313,5 +313,5 @@ new_on c start size lt = let w = sym (position_start start lt) in record {
   head_is = w;
   tail_seen_is = w;
   ahead = refl;
-  hand = ap (λ (z : ℕ). slots_from c start 0 (replicate z None)) (let e : c ≡ c - (0 + 0) = omega arith in e);
+  held = ap (λ (z : ℕ). slots_from c start 0 (replicate z None)) (let e : c ≡ c - (0 + 0) = omega arith in e);
 }

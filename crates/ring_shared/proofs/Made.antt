@@ -34,7 +34,7 @@ module _ {T : Type 0} (c start : ℕ) where
       next_is = sym (position_start start lt);
       tail_is = sym (position_start start lt);
       head_is = sym (position_start start lt) ∙ ap (position_at start) (let e : 0 ≡ c - c = omega arith in e);
-      hand = ap (λ (d : ℕ). slots_from c start 0 (replicate d None)) (let e : c ≡ c - (0 + 0) = omega arith in e) ∙ sym (append-nil (slots_from c start 0 (replicate (c - (0 + 0)) None)));
+      held = ap (λ (d : ℕ). slots_from c start 0 (replicate d None)) (let e : c ≡ c - (0 + 0) = omega arith in e) ∙ sym (append-nil (slots_from c start 0 (replicate (c - (0 + 0)) None)));
     }))
 
     pub new_taker : (m u : Me (Option T) (SeatView T)) → m ≡ (ready, slots_from c start 0 (replicate c None)) → u ≡ (without_sender m.0, []) → TakerIsSound u c start start start
@@ -48,5 +48,5 @@ module _ {T : Type 0} (c start : ℕ) where
       head_is = sym (position_start start lt);
       tail_is = sym (position_start start lt);
       ahead = refl;
-      hand = refl;
+      held = refl;
     }))

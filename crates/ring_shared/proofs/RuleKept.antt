@@ -47,8 +47,8 @@ module _ {T : Type 0} where
       (λ e. (w, ap (get_elem? (set views id w)) e ∙ set_here views id w (at_lt views id v at), keeps_it (ap has (maybe.some-injective v st.0 (sym at ∙ ap (get_elem? views) (sym e) ∙ st.1)) ∙ st.2)))
       (λ ne. (st.0, set_else views id j w ne ∙ st.1, st.2))
 
-  -- ---- the sender publishes
-  module _ (s : State (Option T) (SeatView T)) (r : RuleHolds s) (id : ℕ) (v : SeatView T) (xs : List T) (hand : List (ℕ × Option T)) (new : ℕ) (at : get_elem? s.views id ≡ some v) (part : v.sends ≡ true)
+  -- the sender publishes
+  module _ (s : State (Option T) (SeatView T)) (r : RuleHolds s) (id : ℕ) (v : SeatView T) (xs : List T) (held : List (ℕ × Option T)) (new : ℕ) (at : get_elem? s.views id ≡ some v) (part : v.sends ≡ true)
       (fits : length v.published + length xs ≤ v.limit) (near : length xs ≤ v.capacity) (is : new ≡ position_at v.start (length v.published + length xs)) where
     abbrev d : RingParts T
     d = r.parts
@@ -57,7 +57,7 @@ module _ {T : Type 0} where
     d' = record r.parts { published = r.parts.published ++ xs }
 
     publish_keeps : (v.start ≡ r.parts.start) → (v.capacity ≡ r.parts.capacity) → (v.published ≡ r.parts.published) → (v.limit ≡ r.parts.limit) → id ≡ r.parts.sender
-        → RuleHolds (stepped s 0 new id (slots_from r.parts.capacity r.parts.start (length r.parts.published) (map Some xs) ++ hand) (record v { published = v.published ++ xs }) (give_run r.parts.capacity r.parts.start (map Some xs)))
+        → RuleHolds (stepped s 0 new id (slots_from r.parts.capacity r.parts.start (length r.parts.published) (map Some xs) ++ held) (record v { published = v.published ++ xs }) (give_run r.parts.capacity r.parts.start (map Some xs)))
     publish_keeps e_start e_cap e_sent e_limit e_id =
         let c : ℕ = r.parts.capacity in let z : ℕ = r.parts.start in let t : ℕ = length r.parts.published in let n : ℕ = length xs in let m : length (map Some xs) ≡ n = length-map xs Some in
         let o0 = r.order.taken in let o1 = r.order.seen in let o2 = r.order.published in let o3 = r.order.gained in
@@ -66,7 +66,7 @@ module _ {T : Type 0} where
         record {
           parts = d';
           size = r.size;
-          count = gives_length c z s.homes hand t (map Some xs) ∙ r.count;
+          count = gives_length c z s.homes held t (map Some xs) ∙ r.count;
           word_count = length-set s.words 0 new ∙ r.word_count;
           tail_word = get_or-set_same s.words 0 new 0 (let q = r.word_count in omega arith) ∙ is ∙ ap₂ position_at e_start (omega (arith, ap length e_sent, length-append r.parts.published xs));
           head_word = get_or-set_other s.words 0 1 new 0 (omega arith) ∙ r.head_word;
@@ -82,12 +82,12 @@ module _ {T : Type 0} where
           a_taker = still (λ u. u.takes) s.views id v (record v { published = v.published ++ xs }) r.parts.taker at (λ e. e) r.a_taker;
           full = λ p x le e. ⊎_elim
               (λ (old : get_elem? r.parts.published p ≡ some x). let lt : p < t = at_lt r.parts.published p x old in
-              gives_else c z s.homes hand t (map Some xs) (slot_at c z p) (clear c z p t (length (map Some xs)) (λ i il. ((λ q. omega arith), omega arith, omega arith))) ∙ r.full p x le old)
+              gives_else c z s.homes held t (map Some xs) (slot_at c z p) (clear c z p t (length (map Some xs)) (λ i il. ((λ q. omega arith), omega arith, omega arith))) ∙ r.full p x le old)
               (λ (new_one : (i : ℕ) × (p ≡ t + i) × (get_elem? xs i ≡ some x)).
-              ap (λ (k : ℕ). get_elem? (homes_after s.homes (slots_from c z t (map Some xs) ++ hand) (give_run c z (map Some xs))) (slot_at c z k)) new_one.1
-              ∙ gives_here c z s.homes hand t (map Some xs) l1 r.count r.size.some new_one.0 (Some x) (at_map Some xs new_one.0 x new_one.2))
+              ap (λ (k : ℕ). get_elem? (homes_after s.homes (slots_from c z t (map Some xs) ++ held) (give_run c z (map Some xs))) (slot_at c z k)) new_one.1
+              ∙ gives_here c z s.homes held t (map Some xs) l1 r.count r.size.some new_one.0 (Some x) (at_map Some xs new_one.0 x new_one.2))
               (at_append r.parts.published xs p x e);
-          empty = λ p a b. gives_else c z s.homes hand t (map Some xs) (slot_at c z p) (clear c z p t (length (map Some xs)) (λ i il. ((λ q. omega arith), omega arith, omega arith))) ∙ r.empty p a b;
+          empty = λ p a b. gives_else c z s.homes held t (map Some xs) (slot_at c z p) (clear c z p t (length (map Some xs)) (λ i il. ((λ q. omega arith), omega arith, omega arith))) ∙ r.empty p a b;
           prefix = (r.prefix.0 ++ xs, ap (λ l. l ++ xs) r.prefix.1 ∙ append_assoc r.parts.seen r.prefix.0 xs);
         }
 
@@ -101,21 +101,21 @@ module _ {T : Type 0} where
   pub publishes : (slots id : ℕ) (m : Me (Option T) (SeatView T)) (xs : List T) (new q n : ℕ) → m.0.sends ≡ true → length m.0.published + length xs ≤ m.0.limit → length xs ≤ m.0.capacity
       → new ≡ position_at m.0.start (length m.0.published + length xs) → m.1 ≡ slots_from m.0.capacity m.0.start (length m.0.published) (map Some xs) ++ slots_from m.0.capacity m.0.start q (replicate n None)
       → Allows RuleHolds slots id m 0 (λ _. new) (λ _. stored_tail m)
-  publishes slots id m xs new q n part fits near is hand = λ s r len at lt.
+  publishes slots id m xs new q n part fits near is held = λ s r len at lt.
       let f = (r.seats id m.0 at).as_sender part in let c : ℕ = r.parts.capacity in let z : ℕ = r.parts.start in
       let rest : List (ℕ × Option T) = slots_from m.0.capacity m.0.start q (replicate n None) in
       let w : SeatView T = record m.0 { published = m.0.published ++ xs } in
-      let h : m.1 ≡ slots_from c z (length r.parts.published) (map Some xs) ++ rest = hand ∙ (λ i. slots_from (f.2 i) (f.1 i) (length (f.3 i)) (map Some xs) ++ rest) in
+      let h : m.1 ≡ slots_from c z (length r.parts.published) (map Some xs) ++ rest = held ∙ (λ i. slots_from (f.2 i) (f.1 i) (length (f.3 i)) (map Some xs) ++ rest) in
       let a : Act (Option T) = give_run c z (map Some xs) in (
         w,
         a,
         gives_valid c z s.homes m.1 (map Some xs),
         subst (λ l. RuleHolds (stepped s 0 new id l w a)) (sym h) (publish_keeps s r id m.0 xs rest new at part fits near is f.1 f.2 f.3 f.4 f.0),
-        ap₂ (λ (k : List T) (l : List (ℕ × Option T)). (record m.0 { published = m.0.published ++ k }, l)) (sym (ap items_of hand ∙ items_held m.0.capacity m.0.start (length m.0.published) q n xs))
-            (ap (λ l. carried_after l a) h ∙ carried_gives c z rest (length r.parts.published) (map Some xs) ∙ sym (ap empty_slots hand ∙ empty_held m.0.capacity m.0.start (length m.0.published) q n xs)),
+        ap₂ (λ (k : List T) (l : List (ℕ × Option T)). (record m.0 { published = m.0.published ++ k }, l)) (sym (ap items_of held ∙ items_held m.0.capacity m.0.start (length m.0.published) q n xs))
+            (ap (λ l. carried_after l a) h ∙ carried_gives c z rest (length r.parts.published) (map Some xs) ∙ sym (ap empty_slots held ∙ empty_held m.0.capacity m.0.start (length m.0.published) q n xs)),
       )
 
-  -- ---- the sender loads the head
+  -- the sender loads the head
   pub gains : (slots id : ℕ) (m : Me (Option T) (SeatView T)) → m.0.sends ≡ true → Allows RuleHolds slots id m 1 (λ n. n) (loaded_head m)
   gains slots id m part = λ s r len at lt.
       let f = (r.seats id m.0 at).as_sender part in let c : ℕ = r.parts.capacity in let z : ℕ = r.parts.start in let t : ℕ = length r.parts.published in let l : ℕ = r.parts.limit in
@@ -158,7 +158,7 @@ module _ {T : Type 0} where
         ),
       )
 
-  -- ---- the taker gives emptied slots back
+  -- the taker gives emptied slots back
   pub empty_back : (c z p q n : ℕ) (xs : List T) → empty_slots (slots_from c z p (replicate n None) ++ slots_from c z q (map Some xs)) ≡ slots_from c z p (replicate n None)
   empty_back c z p q n xs = empty_append (slots_from c z p (replicate n None)) (slots_from c z q (map Some xs)) ∙ ap₂ (λ a b. a ++ b) (empty_empty c z p n) (empty_full c z q xs) ∙ append-nil (slots_from c z p (replicate n None))
 
@@ -204,12 +204,12 @@ module _ {T : Type 0} where
   pub releases : (slots id : ℕ) (m : Me (Option T) (SeatView T)) (xs : List T) (new q n : ℕ) → m.0.takes ≡ true → m.0.head + n ≤ length m.0.seen
       → new ≡ position_at m.0.start (m.0.head + n) → m.1 ≡ slots_from m.0.capacity m.0.start m.0.head (replicate n None) ++ slots_from m.0.capacity m.0.start q (map Some xs)
       → Allows RuleHolds slots id m 1 (λ _. new) (λ _. stored_head m)
-  releases slots id m xs new q n part fits is hand = λ s r len at lt.
+  releases slots id m xs new q n part fits is held = λ s r len at lt.
       let f = (r.seats id m.0 at).as_taker part in let c : ℕ = r.parts.capacity in let z : ℕ = r.parts.start in let b : ℕ = r.parts.head in
       let ys : List (Option T) = replicate n None in let many : length ys ≡ n = length-replicate n None in
       let rest : List (ℕ × Option T) = slots_from m.0.capacity m.0.start q (map Some xs) in
       let w : SeatView T = record m.0 { head = m.0.head + n } in
-      let h : m.1 ≡ slots_from c z b ys ++ rest = hand ∙ (λ i. slots_from (f.2 i) (f.1 i) (f.4 i) ys ++ rest) in
+      let h : m.1 ≡ slots_from c z b ys ++ rest = held ∙ (λ i. slots_from (f.2 i) (f.1 i) (f.4 i) ys ++ rest) in
       let a : Act (Option T) = give_run c z ys in
       let kept : RuleHolds (stepped s 1 new id (slots_from c z b ys ++ rest) w a) = release_keeps s r id m rest new n at part fits is in (
         w,
@@ -217,18 +217,18 @@ module _ {T : Type 0} where
         gives_valid c z s.homes m.1 ys,
         subst (λ g. RuleHolds (stepped s 1 new id g w a)) (sym h) kept,
         ap₂ (λ (k : ℕ) (g : List (ℕ × Option T)). (record m.0 { head = m.0.head + k }, g))
-            (let e : length (empty_slots m.1) ≡ n = ap length (ap empty_slots hand ∙ empty_back m.0.capacity m.0.start m.0.head q n xs) ∙ length_slots_from m.0.capacity m.0.start m.0.head ys ∙ many in sym e)
-            (ap (λ g. carried_after g a) h ∙ carried_gives c z rest b ys ∙ sym (ap full_slots hand ∙ full_back m.0.capacity m.0.start m.0.head q n xs)),
+            (let e : length (empty_slots m.1) ≡ n = ap length (ap empty_slots held ∙ empty_back m.0.capacity m.0.start m.0.head q n xs) ∙ length_slots_from m.0.capacity m.0.start m.0.head ys ∙ many in sym e)
+            (ap (λ g. carried_after g a) h ∙ carried_gives c z rest b ys ∙ sym (ap full_slots held ∙ full_back m.0.capacity m.0.start m.0.head q n xs)),
       )
 
-  -- ---- the two stores again, by how far the word goes on
+  -- the two stores again, by how far the word goes on
   pub publishes_local : (slots id : ℕ) (m : Me (Option T) (SeatView T)) (xs : List T) (new : ℕ) (rest : List (ℕ × Option T)) → m.0.sends ≡ true → length m.0.published + length xs ≤ m.0.limit → length xs ≤ m.0.capacity
       → new ≡ position_at m.0.start (length m.0.published + length xs) → m.1 ≡ slots_from m.0.capacity m.0.start (length m.0.published) (map Some xs) ++ rest
       → Allows RuleHolds slots id m 0 (λ _. new) (λ _. stored_local_tail new m)
-  publishes_local slots id m xs new rest part fits near is hand = λ s r len at lt.
+  publishes_local slots id m xs new rest part fits near is held = λ s r len at lt.
       let f = (r.seats id m.0 at).as_sender part in let c : ℕ = r.parts.capacity in let z : ℕ = r.parts.start in let small = r.size.small in
       let w : SeatView T = record m.0 { published = m.0.published ++ xs } in
-      let h : m.1 ≡ slots_from c z (length r.parts.published) (map Some xs) ++ rest = hand ∙ (λ i. slots_from (f.2 i) (f.1 i) (length (f.3 i)) (map Some xs) ++ rest) in
+      let h : m.1 ≡ slots_from c z (length r.parts.published) (map Some xs) ++ rest = held ∙ (λ i. slots_from (f.2 i) (f.1 i) (length (f.3 i)) (map Some xs) ++ rest) in
       let a : Act (Option T) = give_run c z (map Some xs) in
       let front : List (ℕ × Option T) = slots_from m.0.capacity m.0.start (length m.0.published) (map Some xs) in
       let wide : length front ≡ length xs = length_slots_from m.0.capacity m.0.start (length m.0.published) (map Some xs) ∙ length-map xs Some in
@@ -238,29 +238,29 @@ module _ {T : Type 0} where
         gives_valid c z s.homes m.1 (map Some xs),
         subst (λ l. RuleHolds (stepped s 0 new id l w a)) (sym h) (publish_keeps s r id m.0 xs rest new at part fits near is f.1 f.2 f.3 f.4 f.0),
         ap₂ (λ (k : List T) (l : List (ℕ × Option T)). (record m.0 { published = m.0.published ++ k }, l))
-            (sym (ap (λ (n : ℕ). items_of (take n m.1)) many ∙ ap (λ l. items_of (take (length xs) l)) hand ∙ ap items_of (take_at front rest (length xs) wide) ∙ items_full m.0.capacity m.0.start (length m.0.published) xs))
-            (ap (λ l. carried_after l a) h ∙ carried_gives c z rest (length r.parts.published) (map Some xs) ∙ sym (ap (λ (n : ℕ). drop n m.1) many ∙ ap (drop (length xs)) hand ∙ drop_at front rest (length xs) wide)),
+            (sym (ap (λ (n : ℕ). items_of (take n m.1)) many ∙ ap (λ l. items_of (take (length xs) l)) held ∙ ap items_of (take_at front rest (length xs) wide) ∙ items_full m.0.capacity m.0.start (length m.0.published) xs))
+            (ap (λ l. carried_after l a) h ∙ carried_gives c z rest (length r.parts.published) (map Some xs) ∙ sym (ap (λ (n : ℕ). drop n m.1) many ∙ ap (drop (length xs)) held ∙ drop_at front rest (length xs) wide)),
       )
 
   -- what the store of a tail tells, in the end's own values
   pub tail_told : (m : Me (Option T) (SeatView T)) (xs : List T) (new : ℕ) (rest : List (ℕ × Option T)) → length xs ≤ 65536 → new ≡ position_at m.0.start (length m.0.published + length xs)
       → m.1 ≡ slots_from m.0.capacity m.0.start (length m.0.published) (map Some xs) ++ rest → (u : Me (Option T) (SeatView T)) → stored_local_tail new m u → u ≡ (record m.0 { published = m.0.published ++ xs }, rest)
-  tail_told m xs new rest near is hand u told =
+  tail_told m xs new rest near is held u told =
       let front : List (ℕ × Option T) = slots_from m.0.capacity m.0.start (length m.0.published) (map Some xs) in
       let wide : length front ≡ length xs = length_slots_from m.0.capacity m.0.start (length m.0.published) (map Some xs) ∙ length-map xs Some in
       let many : distance new m.0.start (length m.0.published) ≡ length xs = position_between m.0.start (length m.0.published) (length m.0.published + length xs) (position_at m.0.start (length m.0.published)) new refl is (omega arith) (omega arith) ∙ (let e : length m.0.published + length xs - length m.0.published ≡ length xs = omega arith in e) in
       told ∙ ap₂ (λ (k : List T) (l : List (ℕ × Option T)). (record m.0 { published = m.0.published ++ k }, l))
-      (ap (λ (n : ℕ). items_of (take n m.1)) many ∙ ap (λ l. items_of (take (length xs) l)) hand ∙ ap items_of (take_at front rest (length xs) wide) ∙ items_full m.0.capacity m.0.start (length m.0.published) xs)
-      (ap (λ (n : ℕ). drop n m.1) many ∙ ap (drop (length xs)) hand ∙ drop_at front rest (length xs) wide)
+      (ap (λ (n : ℕ). items_of (take n m.1)) many ∙ ap (λ l. items_of (take (length xs) l)) held ∙ ap items_of (take_at front rest (length xs) wide) ∙ items_full m.0.capacity m.0.start (length m.0.published) xs)
+      (ap (λ (n : ℕ). drop n m.1) many ∙ ap (drop (length xs)) held ∙ drop_at front rest (length xs) wide)
 
   pub releases_local : (slots id : ℕ) (m : Me (Option T) (SeatView T)) (new n : ℕ) (rest : List (ℕ × Option T)) → m.0.takes ≡ true → m.0.head + n ≤ length m.0.seen → n ≤ m.0.capacity
       → new ≡ position_at m.0.start (m.0.head + n) → m.1 ≡ slots_from m.0.capacity m.0.start m.0.head (replicate n None) ++ rest
       → Allows RuleHolds slots id m 1 (λ _. new) (λ _. stored_local_head new m)
-  releases_local slots id m new n rest part fits near is hand = λ s r len at lt.
+  releases_local slots id m new n rest part fits near is held = λ s r len at lt.
       let f = (r.seats id m.0 at).as_taker part in let c : ℕ = r.parts.capacity in let z : ℕ = r.parts.start in let b : ℕ = r.parts.head in let small = r.size.small in
       let ys : List (Option T) = replicate n None in
       let w : SeatView T = record m.0 { head = m.0.head + n } in
-      let h : m.1 ≡ slots_from c z b ys ++ rest = hand ∙ (λ i. slots_from (f.2 i) (f.1 i) (f.4 i) ys ++ rest) in
+      let h : m.1 ≡ slots_from c z b ys ++ rest = held ∙ (λ i. slots_from (f.2 i) (f.1 i) (f.4 i) ys ++ rest) in
       let a : Act (Option T) = give_run c z ys in
       let front : List (ℕ × Option T) = slots_from m.0.capacity m.0.start m.0.head ys in
       let wide : length front ≡ n = length_slots_from m.0.capacity m.0.start m.0.head ys ∙ length-replicate n None in
@@ -270,19 +270,19 @@ module _ {T : Type 0} where
         gives_valid c z s.homes m.1 ys,
         subst (λ g. RuleHolds (stepped s 1 new id g w a)) (sym h) (release_keeps s r id m rest new n at part fits is),
         ap₂ (λ (k : ℕ) (g : List (ℕ × Option T)). (record m.0 { head = m.0.head + k }, g)) (sym many)
-            (ap (λ g. carried_after g a) h ∙ carried_gives c z rest b ys ∙ sym (ap (λ (k : ℕ). drop k m.1) many ∙ ap (drop n) hand ∙ drop_at front rest n wide)),
+            (ap (λ g. carried_after g a) h ∙ carried_gives c z rest b ys ∙ sym (ap (λ (k : ℕ). drop k m.1) many ∙ ap (drop n) held ∙ drop_at front rest n wide)),
       )
 
   pub head_told : (m : Me (Option T) (SeatView T)) (new n : ℕ) (rest : List (ℕ × Option T)) → n ≤ 65536 → new ≡ position_at m.0.start (m.0.head + n)
       → m.1 ≡ slots_from m.0.capacity m.0.start m.0.head (replicate n None) ++ rest → (u : Me (Option T) (SeatView T)) → stored_local_head new m u → u ≡ (record m.0 { head = m.0.head + n }, rest)
-  head_told m new n rest near is hand u told =
+  head_told m new n rest near is held u told =
       let front : List (ℕ × Option T) = slots_from m.0.capacity m.0.start m.0.head (replicate n None) in
       let wide : length front ≡ n = length_slots_from m.0.capacity m.0.start m.0.head (replicate n None) ∙ length-replicate n None in
       let many : distance new m.0.start m.0.head ≡ n = position_between m.0.start m.0.head (m.0.head + n) (position_at m.0.start m.0.head) new refl is (omega arith) (omega arith) ∙ (let e : m.0.head + n - m.0.head ≡ n = omega arith in e) in
       told ∙ ap₂ (λ (k : ℕ) (l : List (ℕ × Option T)). (record m.0 { head = m.0.head + k }, l)) many
-      (ap (λ (k : ℕ). drop k m.1) many ∙ ap (drop n) hand ∙ drop_at front rest n wide)
+      (ap (λ (k : ℕ). drop k m.1) many ∙ ap (drop n) held ∙ drop_at front rest n wide)
 
-  -- ---- the taker loads the tail
+  -- the taker loads the tail
   pub fills : (slots id : ℕ) (m : Me (Option T) (SeatView T)) → m.0.takes ≡ true → Allows RuleHolds slots id m 0 (λ n. n) (loaded_tail m)
   fills slots id m part = λ s r len at lt.
       let f = (r.seats id m.0 at).as_taker part in let c : ℕ = r.parts.capacity in let z : ℕ = r.parts.start in let b : ℕ = r.parts.head in
@@ -329,7 +329,7 @@ module _ {T : Type 0} where
   only a b zero e = (refl, maybe.some-injective a b e)
   only a b (suc i) e = absurd (maybe.some-ne-none b (sym e))
 
-  -- ---- the taker's part goes to a new seat
+  -- the taker's part goes to a new seat
   pub splits : (id : ℕ) (v : SeatView T) → v.takes ≡ true → Splits RuleHolds id v (without_taker v) (without_sender v)
   splits id v part = λ s r at.
       let f = (r.seats id v at).as_taker part in
@@ -360,7 +360,7 @@ module _ {T : Type 0} where
         prefix = r.prefix;
       }
 
-  -- ---- the sender takes in the taker's part
+  -- the sender takes in the taker's part
   pub joins : (id other : ℕ) (v w : SeatView T) → v.sends ≡ true → w.takes ≡ true → Joins RuleHolds id v other w (joined v w) spent_view
   joins id other v w sends takes = λ s r at apart there.
       let f = (r.seats id v at).as_sender sends in
@@ -390,7 +390,7 @@ module _ {T : Type 0} where
         prefix = r.prefix;
       }
 
-  -- ---- who has both parts is told that what was seen is a beginning of what was published
+  -- who has both parts is told that what was seen is a front of what was published
   pub compares : (slots id : ℕ) (m : Me (Option T) (SeatView T)) → m.0.sends ≡ true → m.0.takes ≡ true → Allows RuleHolds slots id m 0 (λ n. n) (compared m)
   compares slots id m sends takes = λ s r len at lt.
       let f = (r.seats id m.0 at).as_sender sends in let g = (r.seats id m.0 at).as_taker takes in (
@@ -402,7 +402,7 @@ module _ {T : Type 0} where
         (refl, r.tail_word ∙ ap₂ position_at (sym f.1) (ap length (sym f.3)), (let o = r.order.published in let p = r.order.gained in omega (arith, ap length f.3, g.4, f.2)), (let p = r.order.gained in omega (arith, f.4, g.4, f.2)), (r.prefix.0, f.3 ∙ r.prefix.1 ∙ ap (λ k. k ++ r.prefix.0) (sym g.3))),
       )
 
-  -- ---- the rule at the start
+  -- the rule at the start
   pub opens : (c start a b : ℕ) → IsSize c → a ≡ position_at start 0 → b ≡ position_at start 0 → RuleHolds (opening (a ∷ b ∷ []) (replicate c None) (first_view {T = T} start c))
   opens c start a b size is_a is_b = record {
     parts = record { start = start; capacity = c; sender = 0; taker = 0; published = []; limit = 0; seen = []; head = 0 };

@@ -24,7 +24,7 @@ map_append f (x ∷ xs) ys = ap (λ l. f x ∷ l) (map_append f xs ys)
 module _ {T : Type 0} where
   -- what is out tells what was put and not published
   pub whole : (v : SeatView T) (x : List T) (h : List (ℕ × Option T)) (c n a b : ℕ) → SenderHolds v x h c n a b → items_of h ≡ x
-  whole v x h c n a b k = ap items_of k.hand ∙ items_append (slots_from c v.start (length v.published + length x) (replicate (v.limit - (length v.published + length x)) None)) (slots_from c v.start (length v.published) (map Some x))
+  whole v x h c n a b k = ap items_of k.held ∙ items_append (slots_from c v.start (length v.published + length x) (replicate (v.limit - (length v.published + length x)) None)) (slots_from c v.start (length v.published) (map Some x))
       ∙ ap₂ (λ p q. p ++ q) (items_empty c v.start (length v.published + length x) (v.limit - (length v.published + length x))) (items_full c v.start (length v.published) x)
 
   pub sends_of : (v : SeatView T) (x : List T) (h : List (ℕ × Option T)) (c n a b : ℕ) → SenderHolds v x h c n a b → SenderIsSound (v, h) c n a b
@@ -33,7 +33,7 @@ module _ {T : Type 0} where
   module _ (v : SeatView T) (x : List T) (h : List (ℕ × Option T)) (c n a b : ℕ) (k : SenderHolds v x h c n a b) where
     -- the slot of the next item lies in front
     pub front : length v.published + length x < v.limit → h ≡ (slot_at c v.start (length v.published + length x), None) ∷ (slots_from c v.start (suc (length v.published + length x)) (replicate (v.limit - (length v.published + length x) - 1) None) ++ slots_from c v.start (length v.published) (map Some x))
-    front lt = k.hand ∙ ap (λ (m : ℕ). slots_from c v.start (length v.published + length x) (replicate m None) ++ slots_from c v.start (length v.published) (map Some x))
+    front lt = k.held ∙ ap (λ (m : ℕ). slots_from c v.start (length v.published + length x) (replicate m None) ++ slots_from c v.start (length v.published) (map Some x))
         (let s : ℕ = length v.published + length x in let e : v.limit - s ≡ suc (v.limit - s - 1) = omega arith in e)
 
     pub put_on : (i m : ℕ) (item : T) → length v.published + length x < v.limit → i ≡ slot_at c v.start (length v.published + length x) → m ≡ position_at v.start (length v.published + length x + 1) → SenderHolds v (x ++ item ∷ []) (rest h ++ (i, Some item) ∷ []) c m a b
@@ -47,7 +47,7 @@ module _ {T : Type 0} where
       next_is = next ∙ ap (position_at v.start) (let e : s + 1 ≡ t + length (x ++ item ∷ []) = omega arith in e);
       tail_is = k.tail_is;
       head_is = k.head_is;
-      hand = ap₂ (λ (g : List (ℕ × Option T)) (j : ℕ). rest g ++ (j, Some item) ∷ []) (front lt) is
+      held = ap₂ (λ (g : List (ℕ × Option T)) (j : ℕ). rest g ++ (j, Some item) ∷ []) (front lt) is
           ∙ append_assoc (slots_from c v.start (suc s) free) (slots_from c v.start t (map Some x)) ((slot_at c v.start s, Some item) ∷ [])
           ∙ ap₂ (λ (p q : List (ℕ × Option T)). p ++ q)
           ((λ j. slots_from c v.start ((let e : suc s ≡ t + length (x ++ item ∷ []) = omega arith in e) j) (replicate ((let e : v.limit - s - 1 ≡ v.limit - (t + length (x ++ item ∷ [])) = omega arith in e) j) None)))
@@ -57,7 +57,7 @@ module _ {T : Type 0} where
 
     -- the full slots come to the front
     pub turned_on : (m : ℕ) → m ≡ v.limit - (length v.published + length x) → turned_times m h ≡ slots_from c v.start (length v.published) (map Some x) ++ slots_from c v.start (length v.published + length x) (replicate (v.limit - (length v.published + length x)) None)
-    turned_on m e = let s : ℕ = length v.published + length x in ap (turned_times m) k.hand ∙ turned_by m (slots_from c v.start s (replicate (v.limit - s) None)) (slots_from c v.start (length v.published) (map Some x))
+    turned_on m e = let s : ℕ = length v.published + length x in ap (turned_times m) k.held ∙ turned_by m (slots_from c v.start s (replicate (v.limit - s) None)) (slots_from c v.start (length v.published) (map Some x))
         (e ∙ sym (length_slots_from c v.start s (replicate (v.limit - s) None) ∙ length-replicate (v.limit - s) None))
 
     pub publish_on : SenderHolds (record v { published = v.published ++ x }) [] (slots_from c v.start (length v.published + length x) (replicate (v.limit - (length v.published + length x)) None)) c n n b
@@ -71,7 +71,7 @@ module _ {T : Type 0} where
       next_is = k.next_is ∙ ap (position_at v.start) (let e : s ≡ length (v.published ++ x) + 0 = omega arith in e);
       tail_is = k.next_is ∙ ap (position_at v.start) (sym more);
       head_is = k.head_is;
-      hand = ap (λ (q : ℕ). slots_from c v.start q (replicate (v.limit - q) None)) (let e : s ≡ length (v.published ++ x) + 0 = omega arith in e) ∙ sym (append-nil (slots_from c v.start (length (v.published ++ x) + 0) (replicate (v.limit - (length (v.published ++ x) + 0)) None)));
+      held = ap (λ (q : ℕ). slots_from c v.start q (replicate (v.limit - q) None)) (let e : s ≡ length (v.published ++ x) + 0 = omega arith in e) ∙ sym (append-nil (slots_from c v.start (length (v.published ++ x) + 0) (replicate (v.limit - (length (v.published ++ x) + 0)) None)));
     }
 
     pub refresh_on : (d m : ℕ) → v.limit ≤ d + v.capacity → d ≤ length v.published → m ≡ position_at v.start d
@@ -87,7 +87,7 @@ module _ {T : Type 0} where
           next_is = k.next_is;
           tail_is = k.tail_is;
           head_is = is ∙ ap (position_at v.start) (let e : d ≡ d + v.capacity - c = omega arith in e);
-          hand = sym (append_assoc (slots_from c v.start s (replicate o None)) (slots_from v.capacity v.start v.limit (replicate p None)) (slots_from c v.start t (map Some x)))
+          held = sym (append_assoc (slots_from c v.start s (replicate o None)) (slots_from v.capacity v.start v.limit (replicate p None)) (slots_from c v.start t (map Some x)))
               ∙ ap (λ (l : List (ℕ × Option T)). l ++ slots_from c v.start t (map Some x))
               ((λ j. slots_from c v.start s (replicate o None) ++ slots_from (c2 j) v.start ((let e : v.limit ≡ s + length {A = Option T} (replicate o None) = omega arith in e) j) (replicate p None))
               ∙ sym (slots_from_append c v.start s (replicate o None) (replicate p None)) ∙ ap (slots_from c v.start s) (sym (twice o p None) ∙ ap (λ (q : ℕ). replicate q None) (let e : o + p ≡ d + v.capacity - s = omega arith in e)));
@@ -103,7 +103,7 @@ unfolding Opens
 no_item i j x l m e = subst Opens (sym e) tt
 
 module _ {T : Type 0} where
-  -- the step of `publish`, at the seat n, which is the end's own after its turned_times
+  -- the step of `publish`, at the seat n, which is the end's own after its turns
   pub may_publish : (slots id : ℕ) (n : Me (Option T) (SeatView T)) (v : SeatView T) (x : List T) (h : List (ℕ × Option T)) (c m a b free : ℕ) → SenderHolds v x h c m a b → free ≡ v.limit - (length v.published + length x) → n ≡ (v, turned_times free h)
       → Allows RuleHolds slots id n 0 (λ _. m) (λ _. stored_tail n)
   may_publish slots id n v x h c m a b free k e is = let c0 = k.close in let c1 = k.fits in let c2 = k.same in
@@ -129,7 +129,7 @@ module _ {T : Type 0} where
         × (v.takes ≡ true → d ≡ v.head)
     told_of r u told = subst (λ z. loaded_head z r u) (is ∙ ap (λ l. (v, l)) (turned_on v x h c m a b k free e)) told
 
-    -- the seat after the second turned_times
+    -- the seat after the second turns
     pub refreshed_seat : (r : ℕ) (u w : Me (Option T) (SeatView T)) (told : loaded_head n r u) (count : ℕ) → count ≡ (told_of r u told).0 - (v.limit - c) + length x → w ≡ (u.0, turned_times count u.1)
         → w ≡ (record v { limit = (told_of r u told).0 + v.capacity }, slots_from c v.start (length v.published + length x) (replicate (v.limit - (length v.published + length x)) None) ++ (slots_from v.capacity v.start v.limit (replicate ((told_of r u told).0 + v.capacity - v.limit) None) ++ slots_from c v.start (length v.published) (map Some x)))
     refreshed_seat r u w told count many at = let t = told_of r u told in let d : ℕ = t.0 in let c0 = k.loaded in let c1 = k.close in let c2 = k.same in let far = t.2 in

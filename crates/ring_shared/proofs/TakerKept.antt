@@ -61,7 +61,7 @@ module _ {T : Type 0} where
   count_of v x = length v.seen - length x
 
   pub whole : (v : SeatView T) (x : List T) (h : List (ℕ × Option T)) (c n a b : ℕ) → TakerHolds v x h c n a b → items_of h ≡ x
-  whole v x h c n a b k = ap items_of k.hand ∙ items_held c v.start (count_of v x) v.head (count_of v x - v.head) x
+  whole v x h c n a b k = ap items_of k.held ∙ items_held c v.start (count_of v x) v.head (count_of v x - v.head) x
 
   pub takes_of : (v : SeatView T) (x : List T) (h : List (ℕ × Option T)) (c n a b : ℕ) → TakerHolds v x h c n a b → TakerIsSound (v, h) c n a b
   takes_of v x h c n a b k = subst (λ (y : List T). TakerHolds v y h c n a b) (sym (whole v x h c n a b k)) k
@@ -69,7 +69,7 @@ module _ {T : Type 0} where
   module _ (v : SeatView T) (x : List T) (h : List (ℕ × Option T)) (c n a b : ℕ) (k : TakerHolds v x h c n a b) where
     module _ (y : T) (ys : List T) (is : x ≡ y ∷ ys) where
       pub front : h ≡ (slot_at c v.start (count_of v x), Some y) ∷ (slots_from c v.start (suc (count_of v x)) (map Some ys) ++ slots_from c v.start v.head (replicate (count_of v x - v.head) None))
-      front = k.hand ∙ ap (λ (l : List T). slots_from c v.start (count_of v x) (map Some l) ++ slots_from c v.start v.head (replicate (count_of v x - v.head) None)) is
+      front = k.held ∙ ap (λ (l : List T). slots_from c v.start (count_of v x) (map Some l) ++ slots_from c v.start v.head (replicate (count_of v x - v.head) None)) is
 
       pub next_item : slice_get v.seen (count_of v x) ≡ Some y
       next_item = (dropped v.seen (count_of v x) y ys (k.ahead ∙ is)).1
@@ -86,7 +86,7 @@ module _ {T : Type 0} where
             head_is = k.head_is;
             tail_is = k.tail_is;
             ahead = ap (λ (z : ℕ). drop z v.seen) one ∙ (dropped v.seen q y ys (k.ahead ∙ is)).0;
-            hand = ap₂ (λ (g : List (ℕ × Option T)) (j : ℕ). rest g ++ (j, None) ∷ []) front at
+            held = ap₂ (λ (g : List (ℕ × Option T)) (j : ℕ). rest g ++ (j, None) ∷ []) front at
                 ∙ append_assoc (slots_from c v.start (suc q) (map Some ys)) (slots_from c v.start v.head (replicate e None)) ((slot_at c v.start q, None) ∷ [])
                 ∙ ap₂ (λ (f g : List (ℕ × Option T)). f ++ g)
                 (ap (λ (z : ℕ). slots_from c v.start z (map Some ys)) (let s : suc q ≡ count_of v ys = omega arith in s))
@@ -96,7 +96,7 @@ module _ {T : Type 0} where
           }
 
     pub turned_on : (m : ℕ) → m ≡ length x → turned_times m h ≡ slots_from c v.start v.head (replicate (count_of v x - v.head) None) ++ slots_from c v.start (count_of v x) (map Some x)
-    turned_on m e = ap (turned_times m) k.hand ∙ turned_by m (slots_from c v.start (count_of v x) (map Some x)) (slots_from c v.start v.head (replicate (count_of v x - v.head) None))
+    turned_on m e = ap (turned_times m) k.held ∙ turned_by m (slots_from c v.start (count_of v x) (map Some x)) (slots_from c v.start v.head (replicate (count_of v x - v.head) None))
         (e ∙ sym (length_slots_from c v.start (count_of v x) (map Some x) ∙ length-map x Some))
 
     pub publish_on : TakerHolds (record v { head = v.head + (count_of v x - v.head) }) x (slots_from c v.start (count_of v x) (map Some x)) c n n b
@@ -110,7 +110,7 @@ module _ {T : Type 0} where
       head_is = k.next_is ∙ ap (position_at v.start) (sym all);
       tail_is = k.tail_is;
       ahead = k.ahead;
-      hand = sym (append-nil (slots_from c v.start q (map Some x))) ∙ ap (λ (z : ℕ). slots_from c v.start q (map Some x) ++ slots_from c v.start (v.head + (q - v.head)) (replicate z None)) (let s : 0 ≡ q - (v.head + (q - v.head)) = omega arith in s);
+      held = sym (append-nil (slots_from c v.start q (map Some x))) ∙ ap (λ (z : ℕ). slots_from c v.start q (map Some x) ++ slots_from c v.start (v.head + (q - v.head)) (replicate z None)) (let s : 0 ≡ q - (v.head + (q - v.head)) = omega arith in s);
     }
 
     pub refresh_on : (xs : List T) (m : ℕ) → length (v.seen ++ xs) ≤ v.head + v.capacity → m ≡ position_at v.start (length (v.seen ++ xs))
@@ -126,7 +126,7 @@ module _ {T : Type 0} where
           head_is = k.head_is;
           tail_is = is;
           ahead = ap (λ (z : ℕ). drop z (v.seen ++ xs)) (sym same) ∙ drop_longer v.seen xs q (omega arith) ∙ ap (λ l. l ++ xs) k.ahead;
-          hand = sym (append_assoc (slots_from c v.start q F) (slots_from v.capacity v.start (length v.seen) (map Some xs)) (slots_from c v.start v.head (replicate (q - v.head) None)))
+          held = sym (append_assoc (slots_from c v.start q F) (slots_from v.capacity v.start (length v.seen) (map Some xs)) (slots_from c v.start v.head (replicate (q - v.head) None)))
               ∙ ap₂ (λ (f : List (ℕ × Option T)) (z : ℕ). f ++ slots_from c v.start v.head (replicate (z - v.head) None))
               ((λ j. slots_from c v.start q F ++ slots_from (c1 j) v.start ((let s : length v.seen ≡ q + length F = omega (arith, length-map x Some) in s) j) (map Some xs))
               ∙ sym (slots_from_append c v.start q F (map Some xs)) ∙ (λ j. slots_from c v.start (same j) (sym (map_append Some x xs) j)))

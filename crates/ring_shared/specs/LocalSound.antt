@@ -1,4 +1,4 @@
--- A ring whose two ends are one seat, and the two lists that it stands for.
+-- What a ring with both ends in one thread keeps between two calls: its one seat has both parts.
 use Rattle.std.specs.Prelude.{◌≡◌, ℕ, ◌+◌, ◌-◌, ◌≤◌, true, List, ◌++◌, length, map, replicate, take, drop, Option, Some, None}
 use Rattle.atomic_table.specs.Table.{Me}
 use Rattle.ring_core.specs.Positions.{position_at, gap}
@@ -7,7 +7,7 @@ use Rattle.ring_shared.specs.declared.view.SeatView.{SeatView}
 use Rattle.ring_shared.specs.HeldSlots.{slots_from, items_of}
 
 module _ {T : Type 0} where
-  -- x is what was put and not published, y what was seen and not taken
+  -- the seat knows v and holds the slots h; x is what was put and not published, y what was seen and not taken. The numbers behind are those that stand in the ring
   pub record LocalHolds (v : SeatView T) (x y : List T) (h : List (ℕ × Option T)) (c next tail head_seen taken head tail_seen : ℕ) : Type 0 where
     pub size : IsSize c
     pub sends : v.sends ≡ true
@@ -26,7 +26,7 @@ module _ {T : Type 0} where
     pub head_is : head ≡ position_at v.start v.head
     pub tail_seen_is : tail_seen ≡ position_at v.start (length v.seen)
     pub ahead : drop (length v.seen - length y) v.seen ≡ y
-    pub hand : h ≡ (slots_from c v.start v.head (replicate (length v.seen - length y - v.head) None) ++ slots_from c v.start (length v.seen - length y) (map Some y))
+    pub held : h ≡ (slots_from c v.start v.head (replicate (length v.seen - length y - v.head) None) ++ slots_from c v.start (length v.seen - length y) (map Some y))
         ++ (slots_from c v.start (length v.published) (map Some x) ++ slots_from c v.start (length v.published + length x) (replicate (v.limit - (length v.published + length x)) None))
 
   abbrev pub LocalIsSound : Me (Option T) (SeatView T) → ℕ → ℕ → ℕ → ℕ → ℕ → ℕ → ℕ → Type 0

@@ -1,4 +1,4 @@
--- The part of a core that an end has. Items stand in the core by numbers, whichever they are.
+-- Where an end stands in a state of the core. Items stand there by numbers, whichever they are.
 use Rattle.std.specs.Prelude.{◌≡◌, ℕ, length, map, take}
 use Rattle.ring_core.specs.RingState.{RingState, PositionsInOrder}
 use Rattle.ring_shared.specs.declared.ring.SendEnd.{SendEnd}
@@ -6,7 +6,7 @@ use Rattle.ring_shared.specs.declared.ring.TakeEnd.{TakeEnd}
 use Rattle.ring_shared.specs.Ends.{sent, published, head_loaded, send_capacity, seen, taken, head_published, take_capacity}
 
 module _ {T : Type 0} (number : T → ℕ) where
-  -- the sender of this machine stands where the end does
+  -- the sender of this state stands where the end does
   pub record IsSenderIn (m : RingState) (e : SendEnd T) : Type 0 where
     pub capacity : m.capacity ≡ send_capacity e
     pub values : m.values ≡ map number (sent e)

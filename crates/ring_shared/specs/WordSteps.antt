@@ -5,7 +5,7 @@ use Rattle.ring_core.specs.Positions.{position_at, gap}
 use Rattle.ring_shared.specs.declared.view.SeatView.{SeatView}
 use Rattle.ring_shared.specs.HeldSlots.{slots_from, items_of, empty_slots, full_slots}
 
--- how far the word new lies past the word of the position p
+-- how far the position new lies past that of the place p
 abbrev pub distance : ℕ → ℕ → ℕ → ℕ
 distance new start p = gap (position_at start p) new
 
@@ -14,7 +14,7 @@ module _ {T : Type 0} where
   abbrev pub stored_tail : Me (Option T) (SeatView T) → Me (Option T) (SeatView T) → Type 0
   stored_tail m k = k ≡ (record m.0 { published = m.0.published ++ items_of m.1 }, empty_slots m.1)
 
-  -- the emptied slots are gained
+  -- the slots that were given back since then are gained
   abbrev pub loaded_head : Me (Option T) (SeatView T) → ℕ → Me (Option T) (SeatView T) → Type 0
   loaded_head m r k = (h : ℕ) × (r ≡ position_at m.0.start h) × (m.0.limit ≤ h + m.0.capacity) × (h ≤ length m.0.published)
       × (k ≡ (record m.0 { limit = h + m.0.capacity }, slots_from m.0.capacity m.0.start m.0.limit (replicate (h + m.0.capacity - m.0.limit) None) ++ m.1))
@@ -30,7 +30,7 @@ module _ {T : Type 0} where
       × (k ≡ (record m.0 { seen = m.0.seen ++ xs }, slots_from m.0.capacity m.0.start (length m.0.seen) (map Some xs) ++ m.1))
       × (m.0.sends ≡ true → m.0.seen ++ xs ≡ m.0.published)
 
-  -- what was seen is a beginning of what was published, the tail is the end of that, and no slot was gained that isn't given back
+  -- what was seen is a front of what was published, the tail is the end of that, and no slot was gained that isn't given back
   abbrev pub compared : Me (Option T) (SeatView T) → ℕ → Me (Option T) (SeatView T) → Type 0
   compared m r k = (k ≡ m) × (r ≡ position_at m.0.start (length m.0.published)) × (length m.0.published ≤ m.0.head + m.0.capacity) × (m.0.limit ≤ m.0.head + m.0.capacity) × ((rest : List T) × (m.0.published ≡ m.0.seen ++ rest))
 

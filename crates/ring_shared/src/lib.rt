@@ -9,8 +9,6 @@ mod ring;
 mod sender;
 mod shared_ring;
 mod taker;
-#[cfg(test)]
-mod tests;
 mod turns;
 mod view;
 mod word_steps;

@@ -63,8 +63,8 @@ invariant_of-self-2 g c = let w = c.args.self.now in let k = w.sound in let m = 
     let slot = c.slot_of-slot.ensures.place m.0.start s k.next_is in
     let on = put_on m.0 x y m.1 _ _ _ _ _ _ _ k c.slot_of-slot.result c.next-self.result c.args.item lt slot (c.next-self.ensures.place m.0.start s k.next_is) in
     let view = ap (λ n. n.0) c.turn.ensures.2 ∙ ap (λ n. n.0) c.exchange.ensures.3 ∙ ap (λ n. n.0) c.turn_slots.ensures.2 in
-    let hand = ap (λ n. n.1) c.turn.ensures.2 ∙ ap (λ n. turned n.1) c.exchange.ensures.3 ∙ ap (λ l. rest l ++ (c.slot_of-slot.result, Some c.args.item) ∷ []) turn in
-    let seat = c.turn_slots-2.ensures.2 ∙ ap₂ (λ v l. (v, turned_times (w.capacity - c.gap.result - 1) l)) view hand ∙ ap (λ l. (m.0, l)) (put_turned_back m.0 x y m.1 _ _ _ _ _ _ _ k (w.capacity - c.gap.result - 1) c.slot_of-slot.result c.args.item (omega arith)) in
+    let held = ap (λ n. n.1) c.turn.ensures.2 ∙ ap (λ n. turned n.1) c.exchange.ensures.3 ∙ ap (λ l. rest l ++ (c.slot_of-slot.result, Some c.args.item) ∷ []) turn in
+    let seat = c.turn_slots-2.ensures.2 ∙ ap₂ (λ v l. (v, turned_times (w.capacity - c.gap.result - 1) l)) view held ∙ ap (λ l. (m.0, l)) (put_turned_back m.0 x y m.1 _ _ _ _ _ _ _ k (w.capacity - c.gap.result - 1) c.slot_of-slot.result c.args.item (omega arith)) in
     let tells = ap (λ n. take (gap w.next_take w.tail_seen) (items_of n.1)) seat ∙ shows_ahead _ _ _ _ _ _ _ _ _ _ _ on in
     let hides = ap (λ n. drop (gap w.next_take w.tail_seen) (items_of n.1)) seat ∙ shows_rest _ _ _ _ _ _ _ _ _ _ _ on in
     record { word_count = w.word_count; own_seat = c.turn_slots-2.ensures.0 ∙ c.turn.ensures.0 ∙ c.exchange.ensures.0 ∙ c.turn_slots.ensures.0 ∙ w.own_seat; sound = subst (λ n. LocalIsSound n w.capacity c.next-self.result w.tail w.head_seen w.next_take w.head w.tail_seen) (sym seat) (holds_of _ _ _ _ _ _ _ _ _ _ _ on) }
@@ -81,6 +81,6 @@ returns g c = let w = c.args.self.now in let k = w.sound in let m = w.seat.me in
     let slot = c.slot_of-slot.ensures.place m.0.start s k.next_is in
     let on = put_on m.0 x y m.1 _ _ _ _ _ _ _ k c.slot_of-slot.result c.next-self.result c.args.item lt slot (c.next-self.ensures.place m.0.start s k.next_is) in
     let view = ap (λ n. n.0) c.turn.ensures.2 ∙ ap (λ n. n.0) c.exchange.ensures.3 ∙ ap (λ n. n.0) c.turn_slots.ensures.2 in
-    let hand = ap (λ n. n.1) c.turn.ensures.2 ∙ ap (λ n. turned n.1) c.exchange.ensures.3 ∙ ap (λ l. rest l ++ (c.slot_of-slot.result, Some c.args.item) ∷ []) turn in
-    let seat = c.turn_slots-2.ensures.2 ∙ ap₂ (λ v l. (v, turned_times (w.capacity - c.gap.result - 1) l)) view hand ∙ ap (λ l. (m.0, l)) (put_turned_back m.0 x y m.1 _ _ _ _ _ _ _ k (w.capacity - c.gap.result - 1) c.slot_of-slot.result c.args.item (omega arith)) in
+    let held = ap (λ n. n.1) c.turn.ensures.2 ∙ ap (λ n. turned n.1) c.exchange.ensures.3 ∙ ap (λ l. rest l ++ (c.slot_of-slot.result, Some c.args.item) ∷ []) turn in
+    let seat = c.turn_slots-2.ensures.2 ∙ ap₂ (λ v l. (v, turned_times (w.capacity - c.gap.result - 1) l)) view held ∙ ap (λ l. (m.0, l)) (put_turned_back m.0 x y m.1 _ _ _ _ _ _ _ k (w.capacity - c.gap.result - 1) c.slot_of-slot.result c.args.item (omega arith)) in
     ap (λ n. local_held_by n w.capacity c.next-self.result w.head_seen w.next_take w.head w.tail_seen) seat ∙ shown _ _ _ _ _ _ _ _ _ _ _ on ∙ put_shown m.0 x y m.1 _ _ _ _ _ _ _ k c.args.item c.next-self.result c.next-self.ensures.value ∙ ap (with_put c.args.item) (sym (shown m.0 x y m.1 _ _ _ _ _ _ _ k))

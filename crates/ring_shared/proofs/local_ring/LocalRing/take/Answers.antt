@@ -88,10 +88,10 @@ invariant_of-self-2 g c = let w = c.args.self.now in let k = w.sound in let m = 
     let slot = c.slot_of-slot.ensures.place m.0.start q k.taken_is in
     let on = take_on m.0 x y m.1 _ _ _ _ _ _ _ k p.0 p.1 p.2 c.slot_of-slot.result c.next-self.result slot (c.next-self.ensures.place m.0.start q k.taken_is) in
     let view = ap (λ n. n.0) c.turn.ensures.2 ∙ ap (λ n. n.0) c.exchange.ensures.3 ∙ ap (λ n. n.0) c.turn_slots.ensures.2 in
-    let hand = ap (λ n. n.1) c.turn.ensures.2 ∙ ap (λ n. turned n.1) c.exchange.ensures.3 ∙ ap (λ l. rest l ++ (c.slot_of-slot.result, None) ∷ []) turn in
+    let held = ap (λ n. n.1) c.turn.ensures.2 ∙ ap (λ n. turned n.1) c.exchange.ensures.3 ∙ ap (λ l. rest l ++ (c.slot_of-slot.result, None) ∷ []) turn in
     let count : ℕ = c.gap.result - 1 + c.gap-2.result + (w.capacity - c.gap-3.result) in
     let fewer : length y ≡ length p.1 + 1 = let z = ap length p.2 in omega arith in
-    let seat = c.turn_slots-2.ensures.2 ∙ ap₂ (λ v l. (v, turned_times count l)) view hand ∙ ap (λ l. (m.0, l)) (take_turned_back m.0 x y m.1 _ _ _ _ _ _ _ k p.0 p.1 p.2 count c.slot_of-slot.result (omega arith)) in
+    let seat = c.turn_slots-2.ensures.2 ∙ ap₂ (λ v l. (v, turned_times count l)) view held ∙ ap (λ l. (m.0, l)) (take_turned_back m.0 x y m.1 _ _ _ _ _ _ _ k p.0 p.1 p.2 count c.slot_of-slot.result (omega arith)) in
     let tells = ap (λ n. take (gap c.next-self.result w.tail_seen) (items_of n.1)) seat ∙ shows_ahead _ _ _ _ _ _ _ _ _ _ _ on in
     let hides = ap (λ n. drop (gap c.next-self.result w.tail_seen) (items_of n.1)) seat ∙ shows_rest _ _ _ _ _ _ _ _ _ _ _ on in
     let item : Some p.0 ≡ Some c.in-Some.item = ap value_of (sym turn ∙ c.exchange.ensures.2) ∙ c.in-Some.is in
@@ -118,10 +118,10 @@ returns-clause-none g c = let w = c.args.self.now in let k = w.sound in let m = 
     let slot = c.slot_of-slot.ensures.place m.0.start q k.taken_is in
     let on = take_on m.0 x y m.1 _ _ _ _ _ _ _ k p.0 p.1 p.2 c.slot_of-slot.result c.next-self.result slot (c.next-self.ensures.place m.0.start q k.taken_is) in
     let view = ap (λ n. n.0) c.turn.ensures.2 ∙ ap (λ n. n.0) c.exchange.ensures.3 ∙ ap (λ n. n.0) c.turn_slots.ensures.2 in
-    let hand = ap (λ n. n.1) c.turn.ensures.2 ∙ ap (λ n. turned n.1) c.exchange.ensures.3 ∙ ap (λ l. rest l ++ (c.slot_of-slot.result, None) ∷ []) turn in
+    let held = ap (λ n. n.1) c.turn.ensures.2 ∙ ap (λ n. turned n.1) c.exchange.ensures.3 ∙ ap (λ l. rest l ++ (c.slot_of-slot.result, None) ∷ []) turn in
     let count : ℕ = c.gap.result - 1 + c.gap-2.result + (w.capacity - c.gap-3.result) in
     let fewer : length y ≡ length p.1 + 1 = let z = ap length p.2 in omega arith in
-    let seat = c.turn_slots-2.ensures.2 ∙ ap₂ (λ v l. (v, turned_times count l)) view hand ∙ ap (λ l. (m.0, l)) (take_turned_back m.0 x y m.1 _ _ _ _ _ _ _ k p.0 p.1 p.2 count c.slot_of-slot.result (omega arith)) in
+    let seat = c.turn_slots-2.ensures.2 ∙ ap₂ (λ v l. (v, turned_times count l)) view held ∙ ap (λ l. (m.0, l)) (take_turned_back m.0 x y m.1 _ _ _ _ _ _ _ k p.0 p.1 p.2 count c.slot_of-slot.result (omega arith)) in
     let item : Some p.0 ≡ Some c.in-Some.item = ap value_of (sym turn ∙ c.exchange.ensures.2) ∙ c.in-Some.is in
     subst (λ (z : ℕ). 0 < z) (sym (gap_is m.0 x y m.1 _ _ _ _ _ _ _ k)) ne
 
@@ -139,10 +139,10 @@ returns-clause-taken g c = let w = c.args.self.now in let k = w.sound in let m =
     let slot = c.slot_of-slot.ensures.place m.0.start q k.taken_is in
     let on = take_on m.0 x y m.1 _ _ _ _ _ _ _ k p.0 p.1 p.2 c.slot_of-slot.result c.next-self.result slot (c.next-self.ensures.place m.0.start q k.taken_is) in
     let view = ap (λ n. n.0) c.turn.ensures.2 ∙ ap (λ n. n.0) c.exchange.ensures.3 ∙ ap (λ n. n.0) c.turn_slots.ensures.2 in
-    let hand = ap (λ n. n.1) c.turn.ensures.2 ∙ ap (λ n. turned n.1) c.exchange.ensures.3 ∙ ap (λ l. rest l ++ (c.slot_of-slot.result, None) ∷ []) turn in
+    let held = ap (λ n. n.1) c.turn.ensures.2 ∙ ap (λ n. turned n.1) c.exchange.ensures.3 ∙ ap (λ l. rest l ++ (c.slot_of-slot.result, None) ∷ []) turn in
     let count : ℕ = c.gap.result - 1 + c.gap-2.result + (w.capacity - c.gap-3.result) in
     let fewer : length y ≡ length p.1 + 1 = let z = ap length p.2 in omega arith in
-    let seat = c.turn_slots-2.ensures.2 ∙ ap₂ (λ v l. (v, turned_times count l)) view hand ∙ ap (λ l. (m.0, l)) (take_turned_back m.0 x y m.1 _ _ _ _ _ _ _ k p.0 p.1 p.2 count c.slot_of-slot.result (omega arith)) in
+    let seat = c.turn_slots-2.ensures.2 ∙ ap₂ (λ v l. (v, turned_times count l)) view held ∙ ap (λ l. (m.0, l)) (take_turned_back m.0 x y m.1 _ _ _ _ _ _ _ k p.0 p.1 p.2 count c.slot_of-slot.result (omega arith)) in
     let item : Some p.0 ≡ Some c.in-Some.item = ap value_of (sym turn ∙ c.exchange.ensures.2) ∙ c.in-Some.is in
     let same_item : p.0 ≡ c.in-Some.item = ap (of_some p.0) item in
     take_shown m.0 x y m.1 _ _ _ _ _ _ _ k p.0 p.1 p.2 c.in-Some.item same_item c.next-self.result c.next-self.ensures.value _ _ (shown m.0 x y m.1 _ _ _ _ _ _ _ k) (ap (λ n. local_held_by n w.capacity w.next_put w.head_seen c.next-self.result w.head w.tail_seen) seat ∙ shown _ _ _ _ _ _ _ _ _ _ _ on)

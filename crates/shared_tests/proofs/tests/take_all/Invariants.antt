@@ -1,5 +1,5 @@
 use Rattle.ring_shared.specs.Ends.{IsSeatOf}
-use Rattle.ring_shared.proofs.tests.take_all.Given as goal
+use Rattle.shared_tests.proofs.tests.take_all.Given as goal
 
 abbrev pub invariant-loop-item : goal.invariant-loop-item
 invariant-loop-item g l = IsSeatOf l.ring l.take.seat

@@ -1,7 +1,7 @@
 ghost use Rattle.std.specs.Prelude.{◌≡◌};
 ghost use Rattle.ring_shared.specs.Ends.{IsSeatOf};
 
-use crate::{LocalRing, SendEnd, SharedRing, TakeEnd};
+use ring_shared::{LocalRing, SendEnd, SharedError, SharedRing, TakeEnd};
 use std::sync::Wait;
 use std::test::Fail;
 use std::thread;
@@ -72,6 +72,13 @@ fn local_positions_wrap(rt: HostRuntime) -> Result<(), Fail> {
     assert_eq!(rt; ring.take(), Some(2));
     assert_eq!(rt; ring.take(), Some(3));
     assert_eq!(rt; ring.places(), (2, 2));
+    Ok(())
+}
+
+#[test]
+fn text_of_a_shared_error(rt: HostRuntime) -> Result<(), Fail> {
+    let text = format!(in rt.alloc(); "{}", SharedError::NoMemory)?;
+    assert_eq!(rt; text.as_str(), "no memory");
     Ok(())
 }
 

@@ -1,0 +1,5 @@
+//! Tests of the ring over atomic words and slots.
+#![tactic(auto)]
+
+#[cfg(test)]
+mod tests;
