@@ -5,7 +5,7 @@ use std::alloc::Global;
 use std::sync::Wait;
 use std::thread::Threads;
 use std::{hint, io, thread};
-use uring_shared::{EngineEnds, PartnerEnds, PartnerSide, SharedError, SharedPair, UserEnds};
+use uring_shared::{EngineEnds, PartnerEnds, PartnerSide, SharedPair, UserEnds};
 
 /// Below how many answers at once a side waits before it looks again.
 const FEW: u64 = 64;
@@ -15,10 +15,6 @@ const MOMENT: u32 = 50;
 
 /// How many looks in a row may find nothing before the thread lets others run.
 const LOOKS: u32 = 4;
-
-fn no_memory(_error: SharedError) -> io::Error {
-    io::Error::from(io::ErrorKind::OutOfMemory)
-}
 
 /// Waits a moment, and longer where nothing has come for some time.
 fn wait(idle: u32) {
@@ -119,7 +115,7 @@ pub(crate) fn pass<R: Threads + Wait + Sync>(
     alloc: Global,
     items: u64,
 ) -> io::Result<Passed> {
-    let (pair, engine, partner) = SharedPair::new(alloc, BOUND, BOUND, 0).map_err(no_memory)?;
+    let (pair, engine, partner) = SharedPair::new(alloc, BOUND, BOUND, 0)?;
     let engine = engine.on(&pair);
     let partner = partner.on(&pair);
     let ((), passed) = thread::join(
