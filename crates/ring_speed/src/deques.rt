@@ -28,6 +28,7 @@ impl Deques {
             let taken = Taken {
                 entry: Entry::blank(0).user_data(first.wrapping_add(place.into())),
                 big: [0; 64],
+                large: false,
                 loan: None,
             };
             if self.entries.push_back(taken).is_err() {
@@ -47,6 +48,7 @@ impl Deques {
                 result: 0,
                 flags: 0,
                 big: [0; 2],
+                large: false,
                 loan: taken.loan,
             };
             if self.completions.push_back(completion).is_err() {

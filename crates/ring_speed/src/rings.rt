@@ -30,6 +30,7 @@ pub(crate) fn serve(ring: &mut IoUring) {
             result: 0,
             flags: 0,
             big: [0; 2],
+            large: taken.large,
             loan: taken.loan,
         };
         if ring.post(completion).is_err() {

@@ -8,7 +8,7 @@ use Rattle.uring_base.specs.declared.limits.TheConstants.{MAX_ENTRIES, MAX_COMPL
 
 pub record Lists : Type 0 where
   pub capacity : ℕ
-  -- published and not yet taken
+  -- published and not yet taken, each with its size and its loan
   pub published : List Taken
   -- offered and not yet published
   pub pushed : List Taken
@@ -38,13 +38,17 @@ pub record IsEmpty (l : Lists) : Type 0 where
   pub completions : l.completions ≡ []
   pub held : l.held ≡ 0
 
+-- an entry that was offered, as it is taken: nothing stands behind it, and it is large where the ring makes it large
+abbrev pub as_offered : Bool → Entry → Option Loan → Taken
+as_offered large entry loan = record { entry = entry; big = replicate 64 0; large = large; loan = loan }
+
 -- an entry of the small size, as it is taken
 abbrev pub small : Entry → Option Loan → Taken
-small entry loan = record { entry = entry; big = replicate 64 0; loan = loan }
+small entry loan = as_offered false entry loan
 
--- a ring may drop the two further numbers of a completion, and nothing else
+-- a ring may drop the two further numbers of a completion and set its size, and changes nothing else
 abbrev pub IsKept : Completion → Completion → Type 0
-IsKept posted kept = kept ≡ record posted { big = kept.big }
+IsKept posted kept = kept ≡ record posted { big = kept.big; large = kept.large }
 
 -- these entries were taken from the front, and these completions posted
 pub record Moves (kept : Completion → Completion) (before : Lists) (ts : List Taken) (cs : List Completion) (after : Lists) : Type 0 where

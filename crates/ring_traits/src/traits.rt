@@ -8,7 +8,7 @@ ghost use Rattle.std.specs.Prelude.{◌≡◌, ◌+◌, ◌<◌, ◌≤◌, ◌�
 ghost use Rattle.std.specs.Option.{option_to_list};
 ghost use Rattle.uring_base.specs.declared.events.Taken.{Taken};
 ghost use Rattle.uring_base.specs.declared.events.Completion.{Completion};
-ghost use Rattle.ring_traits.specs.Lists.{Lists, Moves, WhereTold, Becomes, Reaps, Advances, IsKept, where_kept, one_more, small, offered, all_published, free_of, room_of, HasRoom};
+ghost use Rattle.ring_traits.specs.Lists.{Lists, Moves, WhereTold, Becomes, Reaps, Advances, IsKept, where_kept, one_more, as_offered, offered, all_published, free_of, room_of, HasRoom};
 
 use uring_base::squeue::Entry;
 use uring_base::{Completion, Loan, Taken};
@@ -144,15 +144,19 @@ pub trait UserEnds: Rings {
 
     ghost waiting: { Self → ℕ };
 
+    // Whether an entry that is offered is taken as a large one.
+    ghost offers_large: { Bool };
+
     ghost entries_fit: { Self → ℕ };
 
     ghost completions_fit: { Self → ℕ };
 
     /// Puts an entry and its loan behind, or gives both back where the ring was full as last seen.
+    /// The partner takes it as a small entry, but in a ring of large entries alone as a large one.
     fn offer(&mut self, entry: Entry, loan: Option<Loan>) -> Result<(), (Entry, Option<Loan>)>
         ensures room { IsOk result ↔ (0 < room self.old) }
-        ensures ok { OnOk result (used self.old (small entry loan ∷ []) [] self.new × (room self.old ≡ room self.new + 1)) }
-        ensures told { OnOk result (Becomes (Self.lists self.old) (offered (small entry loan)) (Self.lists self.new)) }
+        ensures ok { OnOk result (used self.old (as_offered offers_large entry loan ∷ []) [] self.new × (room self.old ≡ room self.new + 1)) }
+        ensures told { OnOk result (Becomes (Self.lists self.old) (offered (as_offered offers_large entry loan)) (Self.lists self.new)) }
         ensures waiting { waiting self.new ≡ waiting self.old }
         ensures back { IfErr result (λ refused. refused ≡ (entry, loan)) }
         ensures err { OnErr result (self.new ≡ self.old) };

@@ -26,6 +26,7 @@ fn send_all<R: Wait>(rt: &R, channels: &Channels, sent: u64, answered: u64, item
         let taken = Taken {
             entry: entry(number),
             big: [0; 64],
+            large: false,
             loan: None,
         };
         channels.entries.send(rt, taken);

@@ -60,6 +60,7 @@ pub(crate) fn answer(taken: Taken) -> Completion {
         result: 0,
         flags: 0,
         big: [0; 2],
+        large: false,
         loan: taken.loan,
     }
 }

@@ -1,5 +1,5 @@
 -- What a completion's flags say.
-use Rattle.std.specs.Prelude.{ℕ, ◌/◌, ◌^◌, Bool, not, [], ◌∷◌, Option, Some, None, if◌then◌else◌}
+use Rattle.std.specs.Prelude.{ℕ, ◌/◌, ◌^◌, Bool, false, not, [], ◌∷◌, Option, Some, None, if◌then◌else◌}
 use Rattle.uring_base.specs.FlagBits.{has_bits, completion_bits}
 use Rattle.uring_base.specs.declared.completion_flags.Flags.{Flags}
 use Rattle.uring_base.specs.declared.completion_flags.TheConstants.Flags.{BUFFER, MORE, SOCK_NONEMPTY, NOTIF, BUF_MORE}
@@ -19,7 +19,7 @@ is_final flags = not (is_more flags)
 
 -- what a ring of small completion entries keeps of a completion
 abbrev pub without_big : Completion → Completion
-without_big c = record c { big = 0 ∷ 0 ∷ [] }
+without_big c = record c { big = 0 ∷ 0 ∷ []; large = false }
 
 -- the buffer whose number the completion names isn't used up
 abbrev pub is_buffer_more : ℕ → Bool

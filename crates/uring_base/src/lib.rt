@@ -9,12 +9,14 @@ pub mod cqueue;
 mod entry_bytes;
 pub mod errno;
 mod events;
+pub mod fcntl;
 mod flags;
 mod fsync_flags;
 pub mod limits;
 mod lists;
 pub mod opcodes;
 pub mod squeue;
+pub mod stat;
 pub mod types;
 pub mod words;
 

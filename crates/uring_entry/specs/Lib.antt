@@ -9,7 +9,10 @@ pub use Rattle.uring_base.specs.Sizes as Sizes
 pub use Rattle.uring_base.specs.Targets as Targets
 pub use Rattle.uring_base.specs.Words as Words
 pub use Rattle.uring_large.specs.Layouts as LargeLayouts
+pub use Rattle.uring_large.specs.Mixed as Mixed
 pub use Rattle.uring_large.specs.Numbers as Numbers
+pub use Rattle.uring_mixed.specs.Forms as Forms
+pub use Rattle.uring_mixed.specs.Listing as Listing
 pub use Rattle.uring_types.specs.Cancel as Cancel
 pub use Rattle.uring_types.specs.FlagBits as TypesFlagBits
 pub use Rattle.uring_types.specs.Messages as Messages

@@ -3,4 +3,4 @@
 pub use uring_base::cqueue::{
     BUFFER_SHIFT, Entry, Flags, buffer_more, buffer_select, more, notif, sock_nonempty,
 };
-pub use uring_large::cqueue::{Entry32, EntryMarker, SETUP_CQE32};
+pub use uring_large::cqueue::{Entry32, EntryMarker, MixedCompletion, SETUP_CQE32};

@@ -1,4 +1,4 @@
 //! Submission entries of both sizes.
 
 pub use uring_base::squeue::{Entry, Flags};
-pub use uring_large::squeue::{Entry128, EntryMarker, SETUP_SQE128};
+pub use uring_large::squeue::{Entry128, EntryMarker, MixedEntry, SETUP_SQE128};

@@ -1,2 +1,4 @@
 pub mod Layouts
+pub mod Mixed
+pub mod MixedLaws
 pub mod Numbers

@@ -1,9 +1,10 @@
-//! Completion entries of 32 bytes, and what they have in common with those of 16.
+//! Completion entries of 32 bytes, those of either size, and what all have in common.
 
 ghost use Rattle.std.specs.Prelude.{◌≡◌};
 ghost use Rattle.uring_large.specs.Numbers.{large_completion_numbered};
 
 pub use crate::completion_marker::{EntryMarker, SETUP_CQE32};
+pub use crate::mixed_completion::MixedCompletion;
 pub use uring_base::cqueue::Entry;
 
 /// A completion entry of 32 bytes: the words of a small one, and two numbers of the operation's

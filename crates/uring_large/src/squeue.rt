@@ -1,10 +1,11 @@
-//! Submission entries of 128 bytes, and what they have in common with those of 64.
+//! Submission entries of 128 bytes, those of either size, and what all have in common.
 
 ghost use Rattle.std.specs.Prelude.{◌≡◌, bit_or, replicate};
 ghost use Rattle.uring_base.specs.FlagBits.{bits_in};
 ghost use Rattle.uring_large.specs.Numbers.{large_entry_numbered};
 
 pub use crate::entry_marker::{EntryMarker, SETUP_SQE128};
+pub use crate::mixed_entry::MixedEntry;
 pub use uring_base::squeue::Entry;
 use uring_base::squeue::Flags;
 

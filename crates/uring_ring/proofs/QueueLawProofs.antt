@@ -1,5 +1,5 @@
 -- The laws of an iteration over a completion queue.
-use Rattle.std.proofs.Common.{◌≡◌, ℕ, ℤ, ◌-◌, ◌<◌, zero, suc, List, [], ◌∷◌, ◌++◌, length, map, take, drop, None, refl, ap, sym, ◌∙◌, arith}
+use Rattle.std.proofs.Common.{◌≡◌, ℕ, ℤ, Bool, ◌-◌, ◌<◌, zero, suc, List, [], ◌∷◌, ◌++◌, length, map, take, drop, None, refl, ap, sym, ◌∙◌, arith}
 use Rattle.std.specs.Iterator.{Yields}
 use Rattle.uring_base.specs.declared.events.Completion.{Completion}
 use Rattle.uring_ring.specs.declared.completion_queue.CompletionQueue.{CompletionQueue}
@@ -14,7 +14,7 @@ front_first f [] zero = refl
 front_first f [] (suc n) = refl
 front_first f (x ∷ xs) n = refl
 
-module _ {C : Type 0} (made_of : ℕ → ℤ → ℕ → List ℕ → C) where
+module _ {C : Type 0} (made_of : ℕ → ℤ → ℕ → Bool → List ℕ → C) where
   -- where one waits, the first and then those behind it
   first_of_waiting : (h : Held Completion) → 0 < h.waiting → first_received made_of h.waiting h ≡ first_received made_of 1 h ++ first_received made_of (with_takes 1 h).waiting (with_takes 1 h)
   first_of_waiting h some = ap (λ (n : ℕ). first_received made_of n h) (let e : h.waiting ≡ suc (h.waiting - 1) = omega arith in e) ∙ front_first (received_as made_of) h.published (h.waiting - 1)

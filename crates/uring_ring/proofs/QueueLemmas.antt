@@ -1,5 +1,5 @@
 -- Completions written into a slice, one after another.
-use Rattle.std.proofs.Common.{◌≡◌, ℕ, ℤ, ◌+◌, ◌-◌, ◌<◌, ◌≤◌, zero, suc, List, [], ◌∷◌, ◌++◌, length, map, take, drop, Option, Some, None, refl, ap, sym, ◌∙◌, arith}
+use Rattle.std.proofs.Common.{◌≡◌, ℕ, ℤ, Bool, ◌+◌, ◌-◌, ◌<◌, ◌≤◌, zero, suc, List, [], ◌∷◌, ◌++◌, length, map, take, drop, Option, Some, None, refl, ap, sym, ◌∙◌, arith}
 use Rattle.std.specs.Prelude.{slice_set, MatchOption}
 use Rattle.uring_base.specs.declared.events.Completion.{Completion}
 use Rattle.uring_ring.specs.declared.completion_queue.Received.{Received}
@@ -50,7 +50,7 @@ filled_more f xs zs n x le lt one =
     ∙ (λ j. map Some ((ap (λ l. front ++ l) (sym one) ∙ sym (map_more f xs n)) j) ++ drop_more zs n j)
 
 -- one step of filling: the completion in front goes behind those that stand in the slice
-pub fill_step : {C : Type 0} (made_of : ℕ → ℤ → ℕ → List ℕ → C) (h k l : Held Completion) (r : Option (Received C)) (ys zs : List (Option (Received C))) (i : ℕ) → k ≡ with_takes i h
+pub fill_step : {C : Type 0} (made_of : ℕ → ℤ → ℕ → Bool → List ℕ → C) (h k l : Held Completion) (r : Option (Received C)) (ys zs : List (Option (Received C))) (i : ℕ) → k ≡ with_takes i h
     → MatchOption r ((k.waiting ≡ 0) × (l ≡ k)) (λ x. (0 < k.waiting) × (first_received made_of 1 k ≡ x ∷ []) × (l ≡ with_takes 1 k))
     → ys ≡ map Some (first_received made_of i h) ++ drop i zs → i < h.waiting → h.waiting ≤ length h.published → i < length zs
     → (slice_set ys i r ≡ map Some (first_received made_of (i + 1) h) ++ drop (i + 1) zs) × (l ≡ with_takes (i + 1) h)

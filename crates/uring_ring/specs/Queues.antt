@@ -1,5 +1,5 @@
 -- Queue values, by the rings that they lend.
-use Rattle.std.specs.Prelude.{◌≡◌, ℕ, ℤ, ◌<◌, List, [], ◌∷◌, Option, MatchOption, map, take, bit_or}
+use Rattle.std.specs.Prelude.{◌≡◌, ℕ, ℤ, Bool, ◌<◌, List, [], ◌∷◌, Option, MatchOption, map, take, bit_or}
 use Rattle.bitflags.specs.Sets.{without}
 use Rattle.ring_setup.specs.declared.ring_flags.TheConstants.CompletionRingFlags.{EVENTFD_DISABLED}
 use Rattle.uring_base.specs.declared.buffer.Loan.{Loan}
@@ -35,10 +35,10 @@ completions_of_status status = held_of status.ring.now.slots
 abbrev pub refused : {S : Type 0} → S → Option Loan → Refused S
 refused entry loan = record { error = record {}; entry = entry; loan = loan }
 
-module _ {C : Type 0} (made_of : ℕ → ℤ → ℕ → List ℕ → C) where
+module _ {C : Type 0} (made_of : ℕ → ℤ → ℕ → Bool → List ℕ → C) where
   -- a completion as a ring of such entries gives it
   abbrev pub received_as : Completion → Received C
-  received_as c = record { entry = made_of c.user_data c.result c.flags c.big; loan = c.loan }
+  received_as c = record { entry = made_of c.user_data c.result c.flags c.large c.big; loan = c.loan }
 
   -- so many completions in front, as they are given
   abbrev pub first_received : ℕ → Held Completion → List (Received C)

@@ -27,10 +27,11 @@ fn received_as<C: EntryMarker>(completion: Completion) -> Received<C>
     ensures { result ≡ received_as C.made_of completion }
 {
     Received {
-        entry: C::from_parts(
+        entry: C::from_posted(
             completion.user_data,
             completion.result,
             completion.flags,
+            completion.large,
             completion.big,
         ),
         loan: completion.loan,

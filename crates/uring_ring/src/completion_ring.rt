@@ -16,18 +16,21 @@ pub(crate) struct CompletionWords {
     pub(crate) overflow: u32,
 }
 
-/// A completion with as much of its two further numbers as an entry `C` holds.
+/// A completion with as much of its two further numbers as an entry `C` holds, and of that entry's
+/// size.
 fn kept_as<C: EntryMarker>(completion: Completion) -> Completion
-    ensures { result ≡ kept_as C.made_of C.big_of completion }
+    ensures { result ≡ kept_as C.made_of C.big_of C.large_of completion }
 {
-    let entry = C::from_parts(
+    let entry = C::from_posted(
         completion.user_data,
         completion.result,
         completion.flags,
+        completion.large,
         completion.big,
     );
     Completion {
         big: entry.big(),
+        large: entry.is_large(),
         ..completion
     }
 }
@@ -77,7 +80,7 @@ impl CompletionRing {
     /// The partner posts a completion, of which a ring of entries `C` keeps what a `C` holds.
     pub(crate) fn post<C: EntryMarker>(&mut self, completion: Completion) -> Result<(), Completion>
         ensures room { IsOk result ↔ (0 < (with_head_seen (held_of self.old.slots)).spare) }
-        ensures ok { OnOk result (held_of self.new.slots ≡ with_post (kept_as C.made_of C.big_of completion) (with_head_seen (held_of self.old.slots))) }
+        ensures ok { OnOk result (held_of self.new.slots ≡ with_post (kept_as C.made_of C.big_of C.large_of completion) (with_head_seen (held_of self.old.slots))) }
         ensures back { IfErr result (λ c. c ≡ completion) }
         ensures err { OnErr result (held_of self.new.slots ≡ with_head_seen (held_of self.old.slots)) }
         ensures known { 0 < (held_of self.old.slots).spare → IsOk result }

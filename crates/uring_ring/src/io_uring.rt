@@ -6,7 +6,7 @@ ghost use Rattle.uring_base.specs.declared.limits.TheConstants.{MAX_ENTRIES};
 use crate::completion_queue::CompletionQueue;
 use crate::completion_ring::CompletionRing;
 use crate::pair::queues;
-use crate::submission_queue::SubmissionQueue;
+use crate::submission_queue::{SubmissionQueue, as_offered};
 use crate::submission_ring::SubmissionRing;
 use ring_core::{End, SetupError};
 use ring_setup::Parameters;
@@ -16,6 +16,7 @@ use std::marker::PhantomData;
 use uring_base::squeue::Entry;
 use uring_base::{Completion, Loan, Taken};
 use uring_large::cqueue;
+use uring_large::squeue::EntryMarker;
 
 /// A submission ring of entries `S` with their loans and a completion ring of entries `C`, for one
 /// thread that has the user's side and the partner's. All its memory is taken when it is made.
@@ -152,7 +153,7 @@ impl<S, C: cqueue::EntryMarker> Rings for IoUring<S, C> {
 
     ghost lists = { λ ring. Some (lists_of ring) };
 
-    ghost kept = { kept_as C.made_of C.big_of };
+    ghost kept = { kept_as C.made_of C.big_of C.large_of };
 
     ghost offer_place = { λ ring. (entries_in ring).put_place };
 
@@ -172,7 +173,7 @@ impl<S, C: cqueue::EntryMarker> PartnerSide for IoUring<S, C> {
     ghost use Rattle.uring_ring.specs.IoUring.{RingMoves, RingMarks, lists_of, entries_in, completions_in, ring_words};
     ghost use Rattle.uring_ring.specs.Laws.{RingMoves-none, RingMoves-then, marked_lists};
 
-    ghost moved = { RingMoves (kept_as C.made_of C.big_of) };
+    ghost moved = { RingMoves (kept_as C.made_of C.big_of C.large_of) };
 
     ghost ready = { λ ring. (entries_in ring).waiting };
 
@@ -190,7 +191,7 @@ impl<S, C: cqueue::EntryMarker> PartnerSide for IoUring<S, C> {
 
     // Each call of this side has the trait's clauses, and says what the words beside the rings are.
     fn published(&mut self) -> u32
-        ensures moved { RingMoves (kept_as C.made_of C.big_of) self.old [] [] self.new }
+        ensures moved { RingMoves (kept_as C.made_of C.big_of C.large_of) self.old [] [] self.new }
         ensures count { result ≡ (entries_in self.new).waiting }
         ensures grows { (entries_in self.old).waiting ≤ (entries_in self.new).waiting }
         ensures space { (completions_in self.new).spare ≡ (completions_in self.old).spare }
@@ -201,7 +202,7 @@ impl<S, C: cqueue::EntryMarker> PartnerSide for IoUring<S, C> {
     }
 
     fn take(&mut self) -> Option<Taken>
-        ensures moved { RingMoves (kept_as C.made_of C.big_of) self.old (option_to_list result) [] self.new }
+        ensures moved { RingMoves (kept_as C.made_of C.big_of C.large_of) self.old (option_to_list result) [] self.new }
         ensures known { 0 < (entries_in self.old).waiting → IsSome result }
         ensures told { IsSome result ↔ (0 < length (entries_in self.old).published) }
         ensures none { IsSome result ⊎ ((entries_in self.new).waiting ≡ 0) }
@@ -213,7 +214,7 @@ impl<S, C: cqueue::EntryMarker> PartnerSide for IoUring<S, C> {
     }
 
     fn room(&mut self) -> u32
-        ensures moved { RingMoves (kept_as C.made_of C.big_of) self.old [] [] self.new }
+        ensures moved { RingMoves (kept_as C.made_of C.big_of C.large_of) self.old [] [] self.new }
         ensures count { result ≡ (completions_in self.new).spare }
         ensures grows { (completions_in self.old).spare ≤ (completions_in self.new).spare }
         ensures ready { (entries_in self.new).waiting ≡ (entries_in self.old).waiting }
@@ -226,9 +227,9 @@ impl<S, C: cqueue::EntryMarker> PartnerSide for IoUring<S, C> {
     fn post(&mut self, completion: Completion) -> Result<(), Completion>
         ensures known { 0 < (completions_in self.old).spare → IsOk result }
         ensures told { IsOk result ↔ (0 < room_of (lists_of self.old)) }
-        ensures ok { OnOk result (RingMoves (kept_as C.made_of C.big_of) self.old [] (completion ∷ []) self.new × ((completions_in self.old).spare ≤ (completions_in self.new).spare + 1)) }
+        ensures ok { OnOk result (RingMoves (kept_as C.made_of C.big_of C.large_of) self.old [] (completion ∷ []) self.new × ((completions_in self.old).spare ≤ (completions_in self.new).spare + 1)) }
         ensures back { IfErr result (λ c. c ≡ completion) }
-        ensures err { OnErr result (RingMoves (kept_as C.made_of C.big_of) self.old [] [] self.new × ((completions_in self.new).spare ≡ 0)) }
+        ensures err { OnErr result (RingMoves (kept_as C.made_of C.big_of C.large_of) self.old [] [] self.new × ((completions_in self.new).spare ≡ 0)) }
         ensures ready { (entries_in self.new).waiting ≡ (entries_in self.old).waiting }
         ensures words { ring_words self.new ≡ ring_words self.old }
     {
@@ -286,12 +287,14 @@ impl<S, C: cqueue::EntryMarker> PartnerSide for IoUring<S, C> {
     ghost marked_places = { λ a b marks. (ap (λ h. h.put_place) marks.entries, ap (λ h. h.take_place) marks.completions) };
 }
 
-impl<S, C: cqueue::EntryMarker> UserEnds for IoUring<S, C> {
+impl<S: EntryMarker, C: cqueue::EntryMarker> UserEnds for IoUring<S, C> {
     ghost use Rattle.std.specs.Prelude.{refl};
     ghost use Rattle.uring_ring.specs.IoUring.{RingUses, entries_in, completions_in};
     ghost use Rattle.uring_ring.specs.Laws.{RingUses-none, RingUses-then};
 
     ghost used = { RingUses };
+
+    ghost offers_large = { S.made_large };
 
     ghost room = { λ ring. (entries_in ring).spare };
 
@@ -305,12 +308,7 @@ impl<S, C: cqueue::EntryMarker> UserEnds for IoUring<S, C> {
         if self.submissions.slots.spare() == 0 {
             return Err((entry, loan));
         }
-        let taken = Taken {
-            entry,
-            big: [0; 64],
-            loan,
-        };
-        self.submissions.slots.put(taken);
+        self.submissions.slots.put(as_offered::<S>(entry, loan));
         Ok(())
     }
 

@@ -43,7 +43,7 @@ impl<S, C: cqueue::EntryMarker> Rings for PlainSide<'_, '_, S, C> {
 
     ghost lists = { λ side. Some (side_lists side) };
 
-    ghost kept = { kept_as C.made_of C.big_of };
+    ghost kept = { kept_as C.made_of C.big_of C.large_of };
 
     ghost offer_place = { λ side. (side_entries side).put_place };
 
@@ -63,7 +63,7 @@ impl<S, C: cqueue::EntryMarker> PartnerSide for PlainSide<'_, '_, S, C> {
     ghost use Rattle.uring_ring.specs.PlainSide.{SideMoves, SideMarks, side_lists, side_entries, side_completions, side_words};
     ghost use Rattle.uring_ring.specs.Laws.{SideMoves-none, SideMoves-then, marked_side};
 
-    ghost moved = { SideMoves (kept_as C.made_of C.big_of) };
+    ghost moved = { SideMoves (kept_as C.made_of C.big_of C.large_of) };
 
     ghost ready = { λ side. (side_entries side).waiting };
 
@@ -81,7 +81,7 @@ impl<S, C: cqueue::EntryMarker> PartnerSide for PlainSide<'_, '_, S, C> {
 
     // Each call has the trait's clauses, and says what the words beside the rings are.
     fn published(&mut self) -> u32
-        ensures moved { SideMoves (kept_as C.made_of C.big_of) self.old [] [] self.new }
+        ensures moved { SideMoves (kept_as C.made_of C.big_of C.large_of) self.old [] [] self.new }
         ensures count { result ≡ (side_entries self.new).waiting }
         ensures grows { (side_entries self.old).waiting ≤ (side_entries self.new).waiting }
         ensures space { (side_completions self.new).spare ≡ (side_completions self.old).spare }
@@ -92,7 +92,7 @@ impl<S, C: cqueue::EntryMarker> PartnerSide for PlainSide<'_, '_, S, C> {
     }
 
     fn take(&mut self) -> Option<Taken>
-        ensures moved { SideMoves (kept_as C.made_of C.big_of) self.old (option_to_list result) [] self.new }
+        ensures moved { SideMoves (kept_as C.made_of C.big_of C.large_of) self.old (option_to_list result) [] self.new }
         ensures known { 0 < (side_entries self.old).waiting → IsSome result }
         ensures told { IsSome result ↔ (0 < length (side_entries self.old).published) }
         ensures none { IsSome result ⊎ ((side_entries self.new).waiting ≡ 0) }
@@ -104,7 +104,7 @@ impl<S, C: cqueue::EntryMarker> PartnerSide for PlainSide<'_, '_, S, C> {
     }
 
     fn room(&mut self) -> u32
-        ensures moved { SideMoves (kept_as C.made_of C.big_of) self.old [] [] self.new }
+        ensures moved { SideMoves (kept_as C.made_of C.big_of C.large_of) self.old [] [] self.new }
         ensures count { result ≡ (side_completions self.new).spare }
         ensures grows { (side_completions self.old).spare ≤ (side_completions self.new).spare }
         ensures ready { (side_entries self.new).waiting ≡ (side_entries self.old).waiting }
@@ -117,9 +117,9 @@ impl<S, C: cqueue::EntryMarker> PartnerSide for PlainSide<'_, '_, S, C> {
     fn post(&mut self, completion: Completion) -> Result<(), Completion>
         ensures known { 0 < (side_completions self.old).spare → IsOk result }
         ensures told { IsOk result ↔ (0 < room_of (side_lists self.old)) }
-        ensures ok { OnOk result (SideMoves (kept_as C.made_of C.big_of) self.old [] (completion ∷ []) self.new × ((side_completions self.old).spare ≤ (side_completions self.new).spare + 1)) }
+        ensures ok { OnOk result (SideMoves (kept_as C.made_of C.big_of C.large_of) self.old [] (completion ∷ []) self.new × ((side_completions self.old).spare ≤ (side_completions self.new).spare + 1)) }
         ensures back { IfErr result (λ c. c ≡ completion) }
-        ensures err { OnErr result (SideMoves (kept_as C.made_of C.big_of) self.old [] [] self.new × ((side_completions self.new).spare ≡ 0)) }
+        ensures err { OnErr result (SideMoves (kept_as C.made_of C.big_of C.large_of) self.old [] [] self.new × ((side_completions self.new).spare ≡ 0)) }
         ensures ready { (side_entries self.new).waiting ≡ (side_entries self.old).waiting }
         ensures words { side_words self.new ≡ side_words self.old }
     {

@@ -4,6 +4,7 @@ ghost use Rattle.std.specs.Prelude.{◌≡◌, ◌↔◌, ◌-◌, ◌<◌, ◌�
 ghost use Rattle.ring_core.specs.Slots.{held_of, with_put, with_puts, with_tail, with_head_seen};
 ghost use Rattle.ring_setup.specs.RingFlags.{shows};
 ghost use Rattle.ring_setup.specs.declared.ring_flags.TheConstants.SubmissionFlags.{NEED_WAKEUP, CQ_OVERFLOW, TASKRUN};
+ghost use Rattle.ring_traits.specs.Lists.{as_offered};
 ghost use Rattle.uring_ring.specs.Queues.{entries_at, submission_words_at, refused};
 ghost use Rattle.uring_ring.specs.Sizes.{taken_as, unlent};
 
@@ -61,13 +62,21 @@ impl<S> Drop for SubmissionQueue<'_, S> {
 
 /// An entry of either size as it stands in the ring, with its loan.
 fn taken_as<S: EntryMarker>(entry: &S, loan: Option<Loan>) -> Taken
-    ensures { result ≡ taken_as S.entry_of S.big_of entry.now loan }
+    ensures { result ≡ taken_as S.entry_of S.big_of S.large_of entry.now loan }
 {
     Taken {
         entry: entry.base(),
         big: entry.big(),
+        large: entry.is_large(),
         loan,
     }
+}
+
+/// A small entry as it stands in a ring of entries `S`, with its loan.
+pub(crate) fn as_offered<S: EntryMarker>(entry: Entry, loan: Option<Loan>) -> Taken
+    ensures { result ≡ as_offered S.made_large entry loan }
+{
+    taken_as(&S::from(entry), loan)
 }
 
 impl<S: EntryMarker> SubmissionQueue<'_, S> {
@@ -75,7 +84,7 @@ impl<S: EntryMarker> SubmissionQueue<'_, S> {
     /// seen. The partner doesn't see it before it is published.
     pub fn push(&mut self, entry: S, loan: Option<Loan>) -> Result<(), Refused<S>>
         ensures room { IsOk result ↔ (0 < (entries_at self.old).spare) }
-        ensures ok { OnOk result (entries_at self.new ≡ with_put (taken_as S.entry_of S.big_of entry loan) (entries_at self.old)) }
+        ensures ok { OnOk result (entries_at self.new ≡ with_put (taken_as S.entry_of S.big_of S.large_of entry loan) (entries_at self.old)) }
         ensures back { IfErr result (λ r. r ≡ refused entry loan) }
         ensures err { OnErr result (entries_at self.new ≡ entries_at self.old) }
         ensures words { submission_words_at self.new ≡ submission_words_at self.old }
@@ -96,7 +105,7 @@ impl<S: EntryMarker> SubmissionQueue<'_, S> {
     /// Puts entries without loans behind, or none of them where not all fit as last seen.
     pub fn push_multiple(&mut self, entries: &[S]) -> Result<(), PushError>
         ensures room { IsOk result ↔ (length entries.now ≤ (entries_at self.old).spare) }
-        ensures ok { OnOk result (entries_at self.new ≡ with_puts (map (unlent S.entry_of S.big_of) entries.now) (entries_at self.old)) }
+        ensures ok { OnOk result (entries_at self.new ≡ with_puts (map (unlent S.entry_of S.big_of S.large_of) entries.now) (entries_at self.old)) }
         ensures err { OnErr result (entries_at self.new ≡ entries_at self.old) }
         ensures words { submission_words_at self.new ≡ submission_words_at self.old }
         ensures same_reference { self.new.ring.ghost_name ≡ self.old.ring.ghost_name }

@@ -9,12 +9,14 @@ use ring_shared::{LocalRing, SharedError};
 use std::alloc::Global;
 use uring_base::Completion;
 
-/// What a ring of small completion entries keeps of a completion: all but its two further numbers.
+/// What a ring of small completion entries keeps of a completion: all but its two further numbers,
+/// as a small one.
 pub(crate) fn without_big(completion: Completion) -> Completion
     ensures { result ≡ without_big completion }
 {
     Completion {
         big: [0; 2],
+        large: false,
         ..completion
     }
 }

@@ -62,7 +62,7 @@ impl<'a> Rings for EngineEnds<'a> {
 }
 
 impl<'a> UserEnds for EngineEnds<'a> {
-    ghost use Rattle.std.specs.Prelude.{◌≡◌, ◌+◌, ◌<◌, ◌≤◌, ◌↔◌, List, [], ◌∷◌, ◌++◌, length, IsOk, IsSome, OnOk, OnErr, IfErr, MatchOption};
+    ghost use Rattle.std.specs.Prelude.{◌≡◌, ◌+◌, ◌<◌, ◌≤◌, ◌↔◌, false, List, [], ◌∷◌, ◌++◌, length, IsOk, IsSome, OnOk, OnErr, IfErr, MatchOption};
     ghost use Rattle.std.specs.Option.{option_to_list};
     ghost use Rattle.uring_base.specs.declared.events.Completion.{Completion};
     ghost use Rattle.ring_traits.specs.Lists.{Becomes, WhereTold, Reaps, offered, small};
@@ -75,6 +75,8 @@ impl<'a> UserEnds for EngineEnds<'a> {
     ghost room = { λ ends. engine_room (engine_of ends) };
 
     ghost waiting = { λ ends. engine_waiting (engine_of ends) };
+
+    ghost offers_large = { false };
 
     ghost entries_fit = { λ ends. engine_capacity (engine_of ends) };
 
@@ -97,6 +99,7 @@ impl<'a> UserEnds for EngineEnds<'a> {
         let taken = Taken {
             entry,
             big: [0; 64],
+            large: false,
             loan,
         };
         match self.seats.send.put(&self.pair.submissions, taken) {

@@ -124,7 +124,7 @@ impl PartnerSide for SharedRings {
 }
 
 impl UserEnds for SharedRings {
-    ghost use Rattle.std.specs.Prelude.{refl};
+    ghost use Rattle.std.specs.Prelude.{refl, false};
     ghost use Rattle.uring_shared.specs.SharedRings.{RingUses, entries_in, completions_in};
     ghost use Rattle.uring_shared.specs.RingLaws.{RingUses-none, RingUses-then};
 
@@ -133,6 +133,8 @@ impl UserEnds for SharedRings {
     ghost room = { λ rings. (entries_in rings).spare };
 
     ghost waiting = { λ rings. (completions_in rings).waiting };
+
+    ghost offers_large = { false };
 
     ghost entries_fit = { λ rings. (entries_in rings).capacity };
 
@@ -145,6 +147,7 @@ impl UserEnds for SharedRings {
         let taken = Taken {
             entry,
             big: [0; 64],
+            large: false,
             loan,
         };
         self.submissions.ring.put(taken);

@@ -10,6 +10,7 @@ mod futex;
 mod messages;
 mod napi;
 mod open_how;
+pub mod register_codes;
 mod slots;
 mod submit_args;
 mod time;

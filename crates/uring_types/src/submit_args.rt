@@ -6,7 +6,7 @@ ghost use Rattle.uring_types.specs.New.{new_submit_args};
 use crate::time::Timespec;
 
 /// What else an enter that waits is told. A partner reads these values.
-#[derive(Clone, Copy)]
+#[derive(Clone, Copy, PartialEq, Eq, Debug)]
 pub struct SubmitArgs {
     /// The signals that are masked while it waits, a bit for each; `None` leaves the mask as it is.
     pub sigmask: Option<u64>,

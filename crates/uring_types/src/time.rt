@@ -7,7 +7,7 @@ use std::time::Duration;
 
 /// A span of time, or a point of a clock, as a partner reads it: whole seconds and nanoseconds
 /// beyond them.
-#[derive(Clone, Copy)]
+#[derive(Clone, Copy, PartialEq, Eq, Debug)]
 pub struct Timespec {
     seconds: i64,
     nanos: i64,

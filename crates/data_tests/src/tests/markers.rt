@@ -14,7 +14,7 @@ fn renumbered<E: squeue::EntryMarker>(mut entry: E, number: u64) -> (u64, Entry,
 /// A completion of either size under another number: that number, what else it holds, and what it
 /// becomes.
 fn told<C: cqueue::EntryMarker>(number: u64) -> (u64, [u64; 2], cqueue::Entry) {
-    let mut completion = C::from_parts(1, -5, 2, [7, 8]);
+    let mut completion = C::from_posted(1, -5, 2, false, [7, 8]);
     completion.set_user_data(number);
     (completion.user_data(), completion.big(), completion.into())
 }

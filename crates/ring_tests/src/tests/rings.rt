@@ -3,9 +3,9 @@
 use std::process::Abort;
 use std::test::Fail;
 use uring_base::squeue::Entry;
-use uring_base::{Completion, Taken};
-use uring_large::cqueue::Entry32;
-use uring_large::squeue::Entry128;
+use uring_base::{Completion, Taken, cqueue};
+use uring_large::cqueue::{Entry32, MixedCompletion};
+use uring_large::squeue::{Entry128, MixedEntry};
 use uring_ring::{Builder, IoUring, PartnerSide, PlainSide, PushError, SetupError, UserEnds};
 
 /// Each call that can find no memory answers otherwise where there is memory.
@@ -30,11 +30,12 @@ fn large_job(number: u8) -> Entry128 {
     }
 }
 
-/// Asserts that an entry came with these further bytes.
-fn assert_taken(rt: &impl Abort, taken: Option<Taken>, number: u64, byte: u8) {
+/// Asserts that an entry came in this size with these further bytes.
+fn assert_taken(rt: &impl Abort, taken: Option<Taken>, number: u64, large: bool, byte: u8) {
     match taken {
         Some(taken) => {
             assert_eq!(rt; taken.entry.get_user_data(), number);
+            assert_eq!(rt; taken.large, large);
             assert_eq!(rt; taken.big, [byte; 64]);
         }
         None => assert!(rt; false, "nothing to take"),
@@ -53,22 +54,23 @@ fn large_entries_go_through(rt: HostRuntime) -> Result<(), Fail> {
     submissions.sync();
     let mut side = PlainSide::of(&mut submissions, &mut completions);
     assert_eq!(rt; side.published(), 2);
-    assert_taken(&rt, side.take(), 1, 1);
+    assert_taken(&rt, side.take(), 1, true, 1);
     drop(submissions);
     drop(completions);
     assert!(rt; ring.offer(Entry::blank(0).user_data(4), None).is_ok());
     ring.publish();
-    assert_taken(&rt, ring.take(), 2, 2);
-    assert_taken(&rt, ring.take(), 4, 0);
+    assert_taken(&rt, ring.take(), 2, true, 2);
+    assert_taken(&rt, ring.take(), 4, true, 0);
     Ok(())
 }
 
-fn posted(number: u64) -> Completion {
+fn posted(number: u64, large: bool) -> Completion {
     Completion {
         user_data: number,
         result: -5,
         flags: 7,
         big: [1, 2],
+        large,
         loan: None,
     }
 }
@@ -78,13 +80,68 @@ fn posted(number: u64) -> Completion {
 fn large_completions_go_through(rt: HostRuntime) -> Result<(), Fail> {
     let mut builder: Builder<Entry, Entry32> = IoUring::builder();
     let mut ring = builder.start(4294967295).build(rt.alloc(), 1)?;
-    assert!(rt; ring.post(posted(1)).is_ok());
-    assert!(rt; ring.post(posted(3)).is_ok());
+    assert!(rt; ring.post(posted(1, false)).is_ok());
+    assert!(rt; ring.post(posted(3, false)).is_ok());
     assert_eq!(rt;
         ring.completion().next().map(|received| received.entry),
         Some(Entry32::from_parts(1, -5, 7, [1, 2]))
     );
-    assert_eq!(rt; ring.reap().map(|completion| completion.big), Some([1, 2]));
+    let last = ring
+        .reap()
+        .map(|completion| (completion.big, completion.large));
+    assert_eq!(rt; last, Some(([1, 2], true)));
+    Ok(())
+}
+
+/// A ring of both sizes takes each entry as it was pushed, in one slot, and what is offered as a
+/// small one. The positions wrap between the first and the second.
+#[test]
+fn entries_of_both_sizes_go_through(rt: HostRuntime) -> Result<(), Fail> {
+    let mut builder: Builder<MixedEntry, MixedCompletion> = IoUring::builder();
+    let mut ring = builder.start(4294967295).build(rt.alloc(), 4)?;
+    let (mut submissions, mut completions) = ring.split();
+    let small = MixedEntry::Small(Entry::blank(0).user_data(1));
+    assert!(rt; submissions.push(small, None).is_ok());
+    assert!(rt; submissions.push(large_job(2).into(), None).is_ok());
+    assert_eq!(rt; submissions.push_multiple(&[large_job(3).into()]), Ok(()));
+    assert_eq!(rt; submissions.len(), 3);
+    submissions.sync();
+    let mut side = PlainSide::of(&mut submissions, &mut completions);
+    assert_taken(&rt, side.take(), 1, false, 0);
+    assert_taken(&rt, side.take(), 2, true, 2);
+    drop(submissions);
+    drop(completions);
+    assert!(rt; ring.offer(Entry::blank(0).user_data(4), None).is_ok());
+    ring.publish();
+    assert_taken(&rt, ring.take(), 3, true, 3);
+    assert_taken(&rt, ring.take(), 4, false, 0);
+    Ok(())
+}
+
+/// A ring of both sizes gives a large completion exactly where one was posted, and only that with
+/// its two further numbers.
+#[test]
+fn completions_of_both_sizes_go_through(rt: HostRuntime) -> Result<(), Fail> {
+    let mut builder: Builder<MixedEntry, MixedCompletion> = IoUring::builder();
+    let mut ring = builder.start(4294967295).build(rt.alloc(), 2)?;
+    assert!(rt; ring.post(posted(1, true)).is_ok());
+    assert!(rt; ring.post(posted(2, false)).is_ok());
+    assert!(rt; ring.post(posted(3, true)).is_ok());
+    assert!(rt; ring.post(posted(4, false)).is_ok());
+    let mut queue = ring.completion();
+    let large = MixedCompletion::Large(Entry32::from_parts(1, -5, 7, [1, 2]));
+    assert_eq!(rt; queue.next().map(|received| received.entry), Some(large));
+    let small = MixedCompletion::Small(cqueue::Entry::from_parts(2, -5, 7, [0; 2]));
+    assert_eq!(rt; queue.next().map(|received| received.entry), Some(small));
+    drop(queue);
+    let third = ring
+        .reap()
+        .map(|completion| (completion.big, completion.large));
+    assert_eq!(rt; third, Some(([1, 2], true)));
+    let fourth = ring
+        .reap()
+        .map(|completion| (completion.big, completion.large));
+    assert_eq!(rt; fourth, Some(([0; 2], false)));
     Ok(())
 }
 

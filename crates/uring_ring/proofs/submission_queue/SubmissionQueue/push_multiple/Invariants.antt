@@ -5,7 +5,7 @@ use Rattle.uring_ring.proofs.submission_queue.SubmissionQueue.push_multiple.Give
 
 abbrev pub invariant-loop-entry : goal.invariant-loop-entry
 invariant-loop-entry g l = record {
-  entries : held_of l.ring.slots ≡ with_puts (map (unlent g.S.EntryMarker.entry_of g.S.EntryMarker.big_of) (take l.entry-index l.entries)) (held_of l.initial.ring.slots);
+  entries : held_of l.ring.slots ≡ with_puts (map (unlent g.S.EntryMarker.entry_of g.S.EntryMarker.big_of g.S.EntryMarker.large_of) (take l.entry-index l.entries)) (held_of l.initial.ring.slots);
   words : l.ring.words ≡ l.initial.ring.words;
   room : length l.entries ≤ (held_of l.initial.ring.slots).spare;
 }
