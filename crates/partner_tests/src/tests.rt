@@ -1,3 +1,6 @@
+mod both_sizes;
 mod model;
 mod partners;
+mod read_back;
+mod registrations;
 mod submits;

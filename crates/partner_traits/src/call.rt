@@ -5,6 +5,7 @@ ghost use Rattle.std.specs.Prelude.{◌≡◌};
 use std::alloc::AllocError;
 use std::io;
 use thiserror::Error;
+use uring_types::SubmitArgs;
 
 /// The values of one enter (`io_uring_enter` of the Linux io_uring header).
 #[derive(Clone, Copy, PartialEq, Eq, Debug)]
@@ -16,6 +17,8 @@ pub struct EnterCall {
     /// How many completions the caller waits for.
     pub want: u32,
     pub flags: u32,
+    /// What else it is told while it waits, where the flags say that there is more.
+    pub args: Option<SubmitArgs>,
 }
 
 /// Why a partner's call failed.

@@ -26,6 +26,9 @@ pub trait Partner: Counts {
     ghost use Rattle.uring_model.specs.Refines.{Refines};
     ghost use Rattle.uring_model.specs.Asks.{IsJobEntry};
     ghost use Rattle.partner_traits.specs.Calls.{Enters, IsCall, IsFullTurn, IsPlannedFailure, KeepsErrno, Puts, is_fault, later_plan};
+    ghost use Rattle.partner_traits.specs.Requests.{calls_after};
+    ghost use Rattle.partner_traits.specs.declared.request.PartnerCall.{PartnerCall};
+    ghost use Rattle.partner_traits.specs.declared.request.PartnerCall.TheVariants.{Entered};
 
     // The events of all calls, where the partner tells them, and how many there are.
     ghost log: { Self → Option (List LogEvent) };
@@ -58,6 +61,9 @@ pub trait Partner: Counts {
     // The error number of its last fault.
     ghost errno: { Self → ℕ };
 
+    // The enters and registrations that it answered with a number, where it tells them.
+    ghost calls: { Self → Option (List PartnerCall) };
+
     /// One turn over the side: takes entries from the front of what is published, at most
     /// `to_submit`, and posts completions only where they fit. Answers how many were taken. After a
     /// failure the log keeps what was added before it. The flags and counters of the rings stay as
@@ -77,7 +83,8 @@ pub trait Partner: Counts {
         ensures counted { IfSome (state self.old) (λ _. ¬ Contains (plan self.old) 1 → Self.faults self.new ≡ Self.faults self.old) }
         ensures failure { IfSome (state self.old) (λ _. Contains (plan self.old) 1 → IsPlannedFailure log state Self.faults self.old self.new result × (side.new ≡ side.old)) }
         ensures plan { plan self.new ≡ later_plan (plan self.old) }
-        ensures errno { KeepsErrno result (errno self.old) (errno self.new) };
+        ensures errno { KeepsErrno result (errno self.old) (errno self.new) }
+        ensures calls { calls self.new ≡ calls_after (is_ok result) (Entered call.now) (calls self.old) };
 
     /// The number of events in the log.
     fn log_len(&self) -> usize
@@ -106,7 +113,8 @@ pub trait Seedable: Partner {
         ensures plan { Self.plan self.new ≡ Self.plan self.old }
         ensures cause { HasCause is_fault (Self.faults self.old) (Self.faults self.new) result }
         ensures no_fault { IfSome (Self.state self.old) (λ _. IfErr result (λ e. is_fault e ≡ false) × (Self.faults self.new ≡ Self.faults self.old)) }
-        ensures errno { KeepsErrno result (Self.errno self.old) (Self.errno self.new) };
+        ensures errno { KeepsErrno result (Self.errno self.old) (Self.errno self.new) }
+        ensures calls { Self.calls self.new ≡ Self.calls self.old };
 
     /// Adds a choice behind those that are left: which of the ready entries settles after as many
     /// settlings, and whether the turn goes on after it. A partner that tells its choices is never
@@ -118,5 +126,6 @@ pub trait Seedable: Partner {
         ensures plan { Self.plan self.new ≡ Self.plan self.old }
         ensures cause { HasCause is_fault (Self.faults self.old) (Self.faults self.new) result }
         ensures no_fault { IfSome (Self.state self.old) (λ _. IfErr result (λ e. is_fault e ≡ false) × (Self.faults self.new ≡ Self.faults self.old)) }
-        ensures errno { KeepsErrno result (Self.errno self.old) (Self.errno self.new) };
+        ensures errno { KeepsErrno result (Self.errno self.old) (Self.errno self.new) }
+        ensures calls { Self.calls self.new ≡ Self.calls self.old };
 }

@@ -13,11 +13,11 @@ use Rattle.uring_model.specs.Partner.{op_of, job_of, idle}
 use Rattle.uring_model.specs.Turn.{EntryEnd, ByPost, Quietly, posts_of, turn}
 
 abbrev plain : Entry → Taken
-plain e = record { entry = e; loan = None; big = replicate 64 0 }
+plain e = record { entry = e; loan = None; big = replicate 64 0; large = false }
 
 -- a loan from its second byte on
 abbrev lent : Entry → Taken
-lent e = record { entry = e; loan = Some (record { number = 7; from = 1; buf = 9 ∷ 8 ∷ 7 ∷ [] }); big = replicate 64 0 }
+lent e = record { entry = e; loan = Some (record { number = 7; from = 1; buf = 9 ∷ 8 ∷ 7 ∷ [] }); big = replicate 64 0; large = false }
 
 abbrev nop_entry : Entry
 nop_entry = record (blank 0) { fd = no_fd }
@@ -101,7 +101,7 @@ abbrev numbered : ℕ → ℕ → Taken
 numbered n flags = plain (record nop_entry { user_data = n; flags = flags })
 
 abbrev answers : ℕ → ℤ → Completion
-answers n r = record { user_data = n; result = r; flags = 0; big = 0 ∷ 0 ∷ []; loan = None }
+answers n r = record { user_data = n; result = r; flags = 0; big = 0 ∷ 0 ∷ []; large = false; loan = None }
 
 abbrev posts : List Taken → ℕ → List ℕ → List Completion
 posts ts room choices = posts_of (turn ts room (idle map.empty choices)).ends
@@ -151,13 +151,18 @@ cut_later : posts_of (turn (numbered 1 0 ∷ []) 9 (turn (refused 0 4 ∷ []) 9 
 unfolding step
 cut_later = refl
 
+-- the answer to a large entry is large, and nothing stands in its two further numbers
+large_answer : posts (record (numbered 0 0) { big = replicate 64 9; large = true } ∷ numbered 1 0 ∷ []) 9 [] ≡ record (answers 0 (pos 0)) { large = true } ∷ answers 1 (pos 0) ∷ []
+unfolding step
+large_answer = refl
+
 -- a cancel of the entry before it, which then answers as canceled
 canceled_before : posts (numbered 0 0 ∷ plain (record (blank 14) { addr = 0; user_data = 1 }) ∷ []) 9 (3 ∷ []) ≡ answers 1 (pos 0) ∷ answers 0 (negsuc 124) ∷ []
 unfolding step
 canceled_before = refl
 
 -- a short read lays its bytes behind the loan's place, and its front stays
-short_read : (files : Files) → map.get files 3 ≡ Some (1 ∷ []) → posts_of (turn (lent (read_entry 3 7 2 0) ∷ []) 9 (idle files [])).ends ≡ record { user_data = 0; result = pos 1; flags = 0; big = 0 ∷ 0 ∷ []; loan = Some (record { number = 7; from = 1; buf = 9 ∷ 1 ∷ 7 ∷ [] }) } ∷ []
+short_read : (files : Files) → map.get files 3 ≡ Some (1 ∷ []) → posts_of (turn (lent (read_entry 3 7 2 0) ∷ []) 9 (idle files [])).ends ≡ record { user_data = 0; result = pos 1; flags = 0; big = 0 ∷ 0 ∷ []; large = false; loan = Some (record { number = 7; from = 1; buf = 9 ∷ 1 ∷ 7 ∷ [] }) } ∷ []
 unfolding step
 short_read files e = rw e refl
 

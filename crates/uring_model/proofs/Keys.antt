@@ -5,7 +5,7 @@ use Rattle.std.specs.Ordering.{nat_cmp, is_eq}
 use Rattle.std.specs.declared.cmp.Ordering.{Ordering}
 use Rattle.std.specs.declared.cmp.Ordering.TheVariants.{Less, Equal, Greater}
 use Rattle.std.specs.Cmp.{nat_cmp_total, eq_by_cmp_equiv}
-use Rattle.std.specs.FinMap.{FinMap, find, get, insert, from_entries, get-from_entries, get-insert, same_map, nat_cmp-IsAntisymmetric}
+use Rattle.std.specs.FinMap.{FinMap, find, get, insert, remove, from_entries, get-from_entries, get-insert, get-remove, same_map, nat_cmp-IsAntisymmetric}
 use Rattle.std.specs.Map.{lookup}
 use Rattle.std.specs.BTreeMap.{is_at}
 
@@ -25,6 +25,12 @@ pub one_put : {X : Type 0} (es fs : List (ℕ × X)) (k : ℕ) (v : X) → ((q :
 one_put es fs k v h = same_map nat_cmp_total nat_cmp-IsAntisymmetric _ _ (λ q.
     get_at fs q ∙ h q ∙ ap (λ b. cond b (Some v) (at_number es q)) ((eq_by_cmp_equiv nat_cmp_total).symm k q)
     ∙ sym (get-insert nat_cmp_total (from_entries es) k v q ∙ ap (cond (is_at (nat_cmp q) k) (Some v)) (get_at es q)))
+
+-- entries that lack one number make the map without it
+pub one_gone : {X : Type 0} (es fs : List (ℕ × X)) (k : ℕ) → ((q : ℕ) → at_number fs q ≡ cond (is_at (nat_cmp k) q) None (at_number es q)) → from_entries {R = nat_cmp} fs ≡ remove (from_entries es) k
+one_gone es fs k h = same_map nat_cmp_total nat_cmp-IsAntisymmetric _ _ (λ q.
+    get_at fs q ∙ h q ∙ ap (λ b. cond b None (at_number es q)) ((eq_by_cmp_equiv nat_cmp_total).symm k q)
+    ∙ sym (get-remove nat_cmp_total (from_entries es) k q ∙ ap (cond (is_at (nat_cmp q) k) None) (get_at es q)))
 
 -- a value that is put twice under one number stands there as it was put last
 cond_twice : {X : Type 0} (b : Bool) (v w : Option X) (x : Option X) → cond b w (cond b v x) ≡ cond b w x
@@ -49,7 +55,7 @@ pub never : {T : Type 0} (o : Option T) → is_some o ≡ true → o ≡ None �
 never None some none = absurd cc
 never (Some x) some none = absurd cc
 
-is_equal : (o : Ordering) → is_eq o ≡ true → o ≡ Equal
+pub is_equal : (o : Ordering) → is_eq o ≡ true → o ≡ Equal
 is_equal Less e = absurd cc
 is_equal Equal e = refl
 is_equal Greater e = absurd cc

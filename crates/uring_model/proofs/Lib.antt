@@ -22,3 +22,4 @@ pub mod WorkedRows
 pub mod EntryRows
 pub mod StrangeRows
 pub mod Refining
+pub mod FreeNumbers

@@ -55,8 +55,8 @@ all_settled P a c y h k =
     (all-append P c.front (pass (linked (job_of c.item.taken).link) (cut_after c y) c.back) h (all_passed P (linked (job_of c.item.taken).link) (cut_after c y) c.back k))
 
 post_same : (t : Taken) (r s : ℤ) (f g : ℤ → List ℕ → Option Loan) (x y : List ℕ) → r ≡ s → ((q : ℤ) (z : List ℕ) → f q z ≡ g q z) → x ≡ y
-    → ◌≡◌ {A = Completion} (record { user_data = t.entry.user_data; result = r; flags = 0; big = 0 ∷ 0 ∷ []; loan = f r x }) (record { user_data = t.entry.user_data; result = s; flags = 0; big = 0 ∷ 0 ∷ []; loan = g s y })
-post_same t r s f g x y p e q = λ i. record { user_data = t.entry.user_data; result = p i; flags = 0; big = 0 ∷ 0 ∷ []; loan = (ap (λ k. f k x) p ∙ ap (f s) q ∙ e s y) i }
+    → ◌≡◌ {A = Completion} (record { user_data = t.entry.user_data; result = r; flags = 0; big = 0 ∷ 0 ∷ []; large = t.large; loan = f r x }) (record { user_data = t.entry.user_data; result = s; flags = 0; big = 0 ∷ 0 ∷ []; large = t.large; loan = g s y })
+post_same t r s f g x y p e q = λ i. record { user_data = t.entry.user_data; result = p i; flags = 0; big = 0 ∷ 0 ∷ []; large = t.large; loan = (ap (λ k. f k x) p ∙ ap (f s) q ∙ e s y) i }
 
 module _ {W V : Type 0} (m : Machine W) (n : Machine V) (view : W → V) (Plain : W → Type 0) (Allowed : Taken → Type 0) (r : Refines m n view Plain Allowed) where
   abbrev look : State W → State V

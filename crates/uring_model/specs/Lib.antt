@@ -1,4 +1,5 @@
 pub mod Machine
+pub mod FreeNumber
 pub mod Jobs
 pub mod Replay
 pub mod Chosen

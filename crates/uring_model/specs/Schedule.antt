@@ -195,9 +195,9 @@ module _ {W : Type 0} (m : Machine W) where
   abbrev pub answer_to : W → Cursor → Answer W
   answer_to w c = if c.item.marked || c.item.cut then canceled_in w (job_of c.item.taken).buf else m.answer w (other_in c) c.item.taken
 
-  -- the completion of an entry that is answered so
+  -- the completion of an entry that is answered so, of the entry's size
   abbrev pub completion_of : Taken → Answer W → Completion
-  completion_of t a = record { user_data = t.entry.user_data; result = a.result; flags = 0; big = 0 ∷ 0 ∷ []; loan = m.back t a.result a.buf }
+  completion_of t a = record { user_data = t.entry.user_data; result = a.result; flags = 0; big = 0 ∷ 0 ∷ []; large = t.large; loan = m.back t a.result a.buf }
 
   -- whether the entry at a cursor is quiet and succeeds
   abbrev pub is_quiet_end : W → Cursor → Bool

@@ -19,7 +19,7 @@ mod replayed;
 mod rows;
 mod settling;
 
-pub use files::Files;
+pub use files::{Files, MAX_FILE_NUMBER};
 pub use jobs::{Job, JobKind, Link, Outcome, Report, RunFault};
 pub use machine::{Answered, MAX_FILE_LEN, perform};
 pub use operation::{Operation, has_link, has_soft_link, is_drained, is_quiet, operation_of};

@@ -42,6 +42,6 @@ pub alike : (files : Files) (rest : List Pending) (i : Pending) (copy : Option L
 alike files rest i copy after e h = ap bare e ∙ sym (bare_with i.taken.loan (answered_among files rest i).buf (among-length files rest i)) ∙ sym (ap (λ z. bare z.taken.loan) h)
 
 pub on_loan : {T E : Type 0} (r : Result T E) (i : Pending) (loan : Option Loan) (part : List ℕ) → OnOk r (loan ≡ with_part i.taken.loan part)
-    → OnOk r (◌≡◌ {A = Pending} (record { taken = record { entry = i.taken.entry; big = i.taken.big; loan = loan }; cut = i.cut; marked = i.marked }) (settled_item i part))
-on_loan (Ok x) i loan part h = λ j. record { taken = record { entry = i.taken.entry; big = i.taken.big; loan = h j }; cut = i.cut; marked = i.marked }
+    → OnOk r (◌≡◌ {A = Pending} (record { taken = record { entry = i.taken.entry; big = i.taken.big; large = i.taken.large; loan = loan }; cut = i.cut; marked = i.marked }) (settled_item i part))
+on_loan (Ok x) i loan part h = λ j. record { taken = record { entry = i.taken.entry; big = i.taken.big; large = i.taken.large; loan = h j }; cut = i.cut; marked = i.marked }
 on_loan (Err e) i loan part h = tt

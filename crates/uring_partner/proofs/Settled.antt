@@ -40,6 +40,7 @@ code_settles a c k x rest after r o b l f told pend end cs chosen front m item o
     let result : r ≡ (answer_to a.world c).result = res ∙ ap (λ z. z.result) y in
     let bytes : after.taken.loan ≡ with_part c.item.taken.loan (answer_to a.world c).buf = ap (λ t. t.taken.loan) same ∙ (λ i. with_part (item i).taken.loan (y i).buf) in
     let number : after.taken.entry.user_data ≡ c.item.taken.entry.user_data = ap (λ t. t.taken.entry.user_data) same ∙ ap (λ z. z.taken.entry.user_data) item in
+    let large : after.taken.large ≡ c.item.taken.large = ap (λ t. t.taken.large) same ∙ ap (λ z. z.taken.large) item in
     let links : l ≡ linked (job_of c.item.taken).link = link ∙ ap (λ t. linked (job_of t.taken).link) same ∙ ap (λ z. linked (job_of z.taken).link) item in
     let cuts_is : b ≡ cuts c.item.cut (job_of c.item.taken) (answer_to a.world c).result = cut ∙ (λ i. cuts (item i).cut (job_of (item i).taken) (y i).result) in
     let seen : told ≡ c.front ++ pass l b c.back = passed c.front c.back others front in
@@ -54,6 +55,6 @@ code_settles a c k x rest after r o b l f told pend end cs chosen front m item o
     record {
       cursor = c;
       chosen = chosen;
-      ends = λ i. if quiet i && is_success (result i) then Quietly (number i) else ByPost (record { user_data = number i; result = result i; flags = 0; big = 0 ∷ 0 ∷ []; loan = bytes i });
+      ends = λ i. if quiet i && is_success (result i) then Quietly (number i) else ByPost (record { user_data = number i; result = result i; flags = 0; big = 0 ∷ 0 ∷ []; large = large i; loan = bytes i });
       state = λ i. record { world = made i; pending = all i; tail = ends i; choices = used i };
     }

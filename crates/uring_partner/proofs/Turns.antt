@@ -246,15 +246,11 @@ pub goes_then : {Q : Type 0} (moved : Q → List Taken → List Completion → Q
 goes_then moved joins a b c s t u ms ns p q = record {
   sides = rw (took-append ms ns, posted-append ms ns) (joins s t u (took ms) (took ns) (posted ms) (posted ns) p.sides q.sides);
   grown = q.grown ∙ ap (λ l. l ++ log_of ns) p.grown ∙ append_assoc a.log.items (log_of ms) (log_of ns) ∙ ap (λ l. a.log.items ++ l) (sym (log-append ms ns));
-  faults = q.faults ∙ p.faults;
-  plan = q.plan ∙ p.plan;
+  ledger = q.ledger ∙ p.ledger;
 }
 
-pub goes_none : {Q : Type 0} (moved : Q → List Taken → List Completion → Q → Type 0) (a b : MemoryPartner) (s t : Q) → moved s [] [] t → b.log.items ≡ a.log.items → b.faults ≡ a.faults → b.plan.items ≡ a.plan.items → GoesBy moved a b s t []
-goes_none moved a b s t m e f h = record { sides = m; grown = e ∙ sym (append-nil a.log.items); faults = f; plan = h }
-
 pub goes_side : {Q : Type 0} (moved : Q → List Taken → List Completion → Q → Type 0) (a : MemoryPartner) (s t : Q) → moved s [] [] t → GoesBy moved a a s t []
-goes_side moved a s t m = goes_none moved a a s t m refl refl refl
+goes_side moved a s t m = record { sides = m; grown = sym (append-nil a.log.items); ledger = refl }
 
 pub goes_end : {Q : Type 0} (moved : Q → List Taken → List Completion → Q → Type 0) → ((a : Q) → moved a [] [] a) → (a : MemoryPartner) (s : Q) → GoesBy moved a a s s []
 goes_end moved none a s = goes_side moved a s s (none s)

@@ -5,3 +5,5 @@ pub mod Told
 pub mod Parts
 pub mod Logs
 pub mod Script
+pub mod Answering
+pub mod KeptCalls

@@ -1,9 +1,10 @@
 -- What the parts of a turn do to a log, and what a hostile partner tells.
-use Rattle.std.specs.Prelude.{◌≡◌, List, ◌++◌, drop, Option, Some, None}
+use Rattle.std.specs.Prelude.{◌≡◌, ℕ, List, ◌++◌, drop, Option, Some, None}
 use Rattle.uring_base.specs.declared.buffer.Loan.{Loan}
 use Rattle.uring_base.specs.declared.events.Taken.{Taken}
 use Rattle.uring_base.specs.declared.events.Completion.{Completion}
 use Rattle.uring_base.specs.declared.events.LogEvent.{LogEvent}
+use Rattle.partner_traits.specs.declared.request.Request.{Request}
 use Rattle.uring_model.specs.Moves.{Move, took, posted, log_of}
 use Rattle.uring_model.specs.Partner.{PartnerState}
 use Rattle.uring_partner.specs.declared.hostile.HostilePartner.{HostilePartner}
@@ -28,3 +29,7 @@ script_left p = drop p.used p.script.items
 -- the loans that it took and hasn't posted back
 abbrev pub loans_held : HostilePartner → List Loan
 loans_held p = p.held.items
+
+-- a registration is answered with 0 and changes nothing
+abbrev pub LeavesAll : HostilePartner → Request → ℕ → List ℕ → HostilePartner → Type 0
+LeavesAll old request n left new = (n ≡ 0) × (left ≡ request.nums) × (new ≡ old)

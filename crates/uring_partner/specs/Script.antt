@@ -32,9 +32,9 @@ left_held number Nothing held = held
 left_held number Lent held = option_map_or (remove held) (place_held number held) held
 left_held number (Foreign other) held = held
 
--- the completion of such a post
+-- the completion of such a post, a small one
 abbrev pub completion_by : ℕ → ℤ → ℕ → LoanPlan → List Loan → Completion
-completion_by user_data result flags plan held = record { user_data = user_data; result = result; flags = flags; big = 0 ∷ 0 ∷ []; loan = carried user_data plan held }
+completion_by user_data result flags plan held = record { user_data = user_data; result = result; flags = flags; big = 0 ∷ 0 ∷ []; large = false; loan = carried user_data plan held }
 
 -- The posts are those of as many items in front of the script, none of which is a `Turn`. With these loans held before, the
 -- rest of the script and those loans are left.

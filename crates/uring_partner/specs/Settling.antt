@@ -29,7 +29,7 @@ bare (Some loan) = Some (loan.number, loan.from, length loan.buf)
 
 -- how an entry ends that has this result, and whose loan has its bytes
 abbrev pub ends_as : Taken → ℤ → EntryEnd
-ends_as t r = if ends_quietly (job_of t) r then Quietly t.entry.user_data else ByPost (record { user_data = t.entry.user_data; result = r; flags = 0; big = 0 ∷ 0 ∷ []; loan = t.loan })
+ends_as t r = if ends_quietly (job_of t) r then Quietly t.entry.user_data else ByPost (record { user_data = t.entry.user_data; result = r; flags = 0; big = 0 ∷ 0 ∷ []; large = t.large; loan = t.loan })
 
 -- what is posted at such an end
 abbrev pub post_of : EntryEnd → Option Completion

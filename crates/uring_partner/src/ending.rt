@@ -31,6 +31,7 @@ pub fn ending_of(taken: Taken, outcome: i32, copy: Option<Loan>) -> Ending
     ensures post { result.post ≡ post_of (ends_as taken outcome) }
 {
     let job = taken.entry.user_data;
+    let large = taken.large;
     if ends_quietly(&taken, outcome) {
         return Ending {
             event: LogEvent::Quiet(job),
@@ -39,7 +40,7 @@ pub fn ending_of(taken: Taken, outcome: i32, copy: Option<Loan>) -> Ending
     }
     Ending {
         event: final_post(job, outcome, copy),
-        post: Some(final_completion(job, outcome, taken.loan)),
+        post: Some(final_completion(job, outcome, large, taken.loan)),
     }
 }
 
@@ -55,15 +56,16 @@ fn final_post(job: u64, outcome: i32, loan: Option<Loan>) -> LogEvent
     }
 }
 
-/// The only completion of a job, without flags.
-fn final_completion(job: u64, outcome: i32, loan: Option<Loan>) -> Completion
-    ensures { result ≡ record { user_data = job; result = outcome; flags = 0; big = 0 ∷ 0 ∷ []; loan = loan } }
+/// The only completion of a job, without flags, of the size of its entry.
+fn final_completion(job: u64, outcome: i32, large: bool, loan: Option<Loan>) -> Completion
+    ensures { result ≡ record { user_data = job; result = outcome; flags = 0; big = 0 ∷ 0 ∷ []; large = large; loan = loan } }
 {
     Completion {
         user_data: job,
         result: outcome,
         flags: 0,
         big: [0, 0],
+        large,
         loan,
     }
 }

@@ -4,7 +4,7 @@ ghost use Rattle.std.specs.Prelude.{◌≡◌, ◌<◌, [], IfOk, IfSome, OnOk, 
 ghost use Rattle.uring_partner.specs.Script.{carried, left_held, place_held};
 
 use crate::logging::{event_at, push_known};
-use partner_traits::{Counts, EnterCall, Partner, PartnerError, Seedable};
+use partner_traits::{Counts, EnterCall, Partner, PartnerError, PendingCount, Seedable};
 use ring_traits::PartnerSide;
 use std::alloc::{AllocError, Global};
 use uring_base::cqueue::more;
@@ -161,6 +161,7 @@ impl HostilePartner {
             result: outcome,
             flags,
             big: [0, 0],
+            large: false,
             loan,
         });
         if let Err(_back) = refused {
@@ -282,7 +283,7 @@ impl Counts for HostilePartner {
 }
 
 impl Partner for HostilePartner {
-    ghost use Rattle.std.specs.Prelude.{◌≡◌, [], List, length, min, refl, IfErr, IfOk, is_ok};
+    ghost use Rattle.std.specs.Prelude.{◌≡◌, [], List, None, length, min, refl, IfErr, IfOk, is_ok};
     ghost use Rattle.uring_model.specs.Moves.{Move, took};
     ghost use Rattle.uring_model.specs.Machine.{Files};
     ghost use Rattle.uring_model.specs.Partner.{file_machine};
@@ -316,6 +317,9 @@ impl Partner for HostilePartner {
 
     ghost errno = { λ _. 0 };
 
+    // It keeps no calls.
+    ghost calls = { λ _. None };
+
     fn enter<Q: PartnerSide>(
         &mut self,
         alloc: Global,
@@ -343,6 +347,13 @@ impl Partner for HostilePartner {
     }
 
     ghost counts_log = { λ p. refl };
+}
+
+impl PendingCount for HostilePartner {
+    /// It settles nothing, and keeps the loans of what it took alone, so these are counted.
+    fn pending_count(&self) -> usize {
+        self.held.len()
+    }
 }
 
 impl Seedable for HostilePartner {

@@ -3,12 +3,15 @@
 ghost use Rattle.std.specs.Prelude.{◌≡◌, ◌+◌, ◌<◌, ◌≤◌, [], ◌∷◌, true};
 
 use crate::ending::ending_of;
+use crate::ledger::Ledger;
 use crate::logging::{event_at, push_known};
 use crate::pending_list::PendingList;
 use crate::plan::pass_enter;
 use crate::scan::chosen_place;
 use crate::settle::settle;
-use partner_traits::{Counts, EnterCall, Partner, PartnerError, Seedable};
+use partner_traits::{
+    Counts, EnterCall, Partner, PartnerCall, PartnerError, PendingCount, Seedable,
+};
 use ring_traits::PartnerSide;
 use std::alloc::{AllocError, Global};
 use std::collections::VecDeque;
@@ -34,9 +37,7 @@ pub struct MemoryPartner {
     tail: Option<bool>,
     choices: VecDeque<u32>,
     log: Vec<LogEvent>,
-    // Which of the next enters fail, counted from 1.
-    plan: Vec<u64>,
-    faults: u64,
+    pub(crate) ledger: Ledger,
 }
 
 impl MemoryPartner {
@@ -51,7 +52,7 @@ impl MemoryPartner {
     ghost use Rattle.partner_traits.specs.Calls.{Enters, IsCall, IsFullTurn};
     ghost use Rattle.uring_partner.specs.Parts.{GoesBy};
     ghost use Rattle.uring_partner.specs.Settling.{SettlesAll, SettlesAs, post_of};
-    ghost use Rattle.uring_partner.specs.Told.{state_of, told_state, told_log, told_plan, told_faults, told_errno};
+    ghost use Rattle.uring_partner.specs.Told.{state_of, told_state, told_log, told_plan, told_faults, told_errno, told_calls, given_by};
 
     /// A partner without files, entries, choices or events.
     pub fn new(alloc: Global) -> MemoryPartner
@@ -60,6 +61,8 @@ impl MemoryPartner {
         ensures plan { told_plan result ≡ [] }
         ensures faults { told_faults result ≡ 0 }
         ensures errno { told_errno result ≡ 0 }
+        ensures calls { told_calls result ≡ Some [] }
+        ensures personalities { given_by result ≡ 0 }
     {
         MemoryPartner {
             files: Files::new(alloc),
@@ -67,8 +70,7 @@ impl MemoryPartner {
             tail: None,
             choices: VecDeque::new(alloc),
             log: Vec::new(alloc),
-            plan: Vec::new(alloc),
-            faults: 0,
+            ledger: Ledger::new(alloc),
         }
     }
 
@@ -83,7 +85,7 @@ impl MemoryPartner {
     pub fn pending(&self) -> usize
         ensures { result ≡ length (state_of self.now).pending }
     {
-        self.pending.items.len()
+        self.pending_count()
     }
 
     /// How many bytes the file of this number has.
@@ -106,11 +108,11 @@ impl MemoryPartner {
         }
     }
 
-    /// How many enters failed by plan. It stays at its last value once there.
+    /// How many calls failed by a fault. It stays at its last value once there.
     pub fn faults(&self) -> u64
         ensures { result ≡ told_faults self.now }
     {
-        self.faults
+        self.ledger.faults
     }
 
     /// Lets the `k`-th enter from now, counted from 1, fail with the error number `EIO`. It does
@@ -123,8 +125,9 @@ impl MemoryPartner {
         ensures state { told_state self.new ≡ told_state self.old }
         ensures log { told_log self.new ≡ told_log self.old }
         ensures faults { told_faults self.new ≡ told_faults self.old }
+        ensures calls { told_calls self.new ≡ told_calls self.old }
     {
-        if self.plan.push(k).is_err() {
+        if self.ledger.plan.push(k).is_err() {
             return Err(PartnerError::NoMemory);
         }
         Ok(())
@@ -204,8 +207,7 @@ impl MemoryPartner {
         requires { 0 < deque_len self.old.pending.items }
         ensures ok { IfOk result (λ post. (e : EntryEnd) × SettlesAs (state_of self.old) e (state_of self.new) × (post ≡ post_of e) × (self.new.log.items ≡ self.old.log.items ++ logged (ended e) ∷ [])) }
         ensures err { OnErr result ((state_of self.new ≡ state_of self.old) × (self.new.log.items ≡ self.old.log.items)) }
-        ensures faults { self.new.faults ≡ self.old.faults }
-        ensures plan { self.new.plan.items ≡ self.old.plan.items }
+        ensures ledger { self.new.ledger ≡ self.old.ledger }
     {
         self.log.try_reserve(1)?;
         let place = chosen_place(&self.pending, self.next_choice());
@@ -281,8 +283,7 @@ impl MemoryPartner {
             × IsCall (is_ok result) to_submit (Q.lists side.old) ms
             × IfOk result (λ n. n ≡ length (took ms))
             × OnOk result (IsFullTurn file_machine (told_state self.old) (min to_submit (Q.ready side.old)) (Q.space side.old) (Q.lists side.old) ms) }
-        ensures faults { self.new.faults ≡ self.old.faults }
-        ensures plan { self.new.plan.items ≡ self.old.plan.items }
+        ensures ledger { self.new.ledger ≡ self.old.ledger }
     {
         let turn = self.begin_turn(side, to_submit)?;
         self.take_all(side, turn)?;
@@ -313,7 +314,7 @@ impl Partner for MemoryPartner {
     ghost use Rattle.uring_model.specs.Machine.{Files};
     ghost use Rattle.uring_model.specs.Partner.{file_machine};
     ghost use Rattle.uring_model.specs.Refines.{AnyFiles, same_files, files_refine};
-    ghost use Rattle.uring_partner.specs.Told.{told_log, told_state, told_plan, told_errno, put_in, puts_in};
+    ghost use Rattle.uring_partner.specs.Told.{told_log, told_state, told_plan, told_errno, told_calls, put_in, puts_in};
 
     ghost log = { told_log };
 
@@ -339,20 +340,21 @@ impl Partner for MemoryPartner {
 
     ghost errno = { told_errno };
 
+    ghost calls = { told_calls };
+
     fn enter<Q: PartnerSide>(
         &mut self,
         alloc: Global,
         call: &EnterCall,
         side: &mut Q,
     ) -> Result<u32, PartnerError> {
-        if pass_enter(&mut self.plan) {
-            self.faults = self.faults.saturating_add(1);
-            return Err(PartnerError::Fault(EIO.cast_unsigned()));
+        if pass_enter(&mut self.ledger.plan) {
+            return Err(self.ledger.fault(EIO));
         }
-        match self.run_turn(alloc, call.to_submit, side) {
-            Ok(taken) => Ok(taken),
-            Err(_) => Err(PartnerError::NoMemory),
-        }
+        self.ledger.calls.try_reserve(1)?;
+        let taken = self.run_turn(alloc, call.to_submit, side)?;
+        push_known(&mut self.ledger.calls, PartnerCall::Entered(*call));
+        Ok(taken)
     }
 
     fn log_len(&self) -> usize {
@@ -364,6 +366,12 @@ impl Partner for MemoryPartner {
     }
 
     ghost counts_log = { λ p. refl };
+}
+
+impl PendingCount for MemoryPartner {
+    fn pending_count(&self) -> usize {
+        self.pending.items.len()
+    }
 }
 
 impl Seedable for MemoryPartner {

@@ -40,6 +40,7 @@ fn turn<P: Partner>(
         to_submit: 8,
         want: 0,
         flags: 0,
+        args: None,
     };
     ring.publish();
     let taken = partner.enter(alloc, &call, ring)?;

@@ -7,12 +7,14 @@ use ring_traits::{PartnerSide, UserEnds};
 use std::alloc::Global;
 use std::process::Abort;
 use std::test::Fail;
-use uring_base::Event;
 use uring_base::errno::EIO;
+use uring_base::squeue::Entry;
+use uring_base::{Event, cqueue};
 use uring_ops_file::Nop;
 use uring_partner::MemoryPartner;
 use uring_ring::IoUring;
 use uring_submit::{EnterFlags, SubmitError, Submitter};
+use uring_types::SubmitArgs;
 
 /// A partner in memory, and the call of its last enter.
 #[derive(Drop)]
@@ -50,6 +52,8 @@ impl Partner for Recording {
 
     ghost errno = { λ partner. ⟦<MemoryPartner as Partner>⟧.errno partner.inner };
 
+    ghost calls = { λ partner. ⟦<MemoryPartner as Partner>⟧.calls partner.inner };
+
     fn enter<Q: PartnerSide>(
         &mut self,
         alloc: Global,
@@ -84,6 +88,7 @@ fn assert_entered(
         to_submit,
         want,
         flags: flags.bits(),
+        args: None,
     };
     assert_eq!(rt; partner.last, Some(wanted));
 }
@@ -143,5 +148,65 @@ fn faults_are_handed_on(rt: HostRuntime) -> Result<(), Fail> {
     assert!(rt; partner.fail_enter(alloc, 1).is_ok());
     let answer = submitter.submit_and_wait(alloc, &mut ring, &mut partner, 1);
     assert_eq!(rt; answer, Err(SubmitError::Fault(EIO.cast_unsigned())));
+    Ok(())
+}
+
+/// Where the partner's own thread takes entries there is no enter while it is awake, and one that
+/// wakes it once it sleeps.
+#[test]
+fn a_thread_is_woken_where_it_sleeps(rt: HostRuntime) -> Result<(), Fail> {
+    let alloc = rt.alloc();
+    let mut builder = IoUring::<Entry, cqueue::Entry>::builder();
+    let mut ring = builder.setup_sqpoll(1).build(alloc, 2)?;
+    let mut submitter = Submitter::new(ring.params());
+    let mut partner = MemoryPartner::new(alloc);
+    assert_eq!(rt; submitter.submit(alloc, &mut ring, &mut partner), Ok(0));
+    assert_eq!(rt; partner.log_len(), 0);
+    ring.set_sq_flags(SubmissionFlags::NEED_WAKEUP.bits());
+    assert_eq!(rt; submitter.submit(alloc, &mut ring, &mut partner), Ok(0));
+    assert_eq!(rt; partner.log_len(), 1);
+    assert_eq!(rt; partner.log_event(0), Event::Turn(0));
+    let Some(call) = partner.enter_call(0) else {
+        panic!(rt; "the enter is kept");
+    };
+    assert_eq!(rt; call.flags, 2);
+    assert_eq!(rt; call.ring, -1);
+    assert!(rt; partner.enter_call(1).is_none());
+    Ok(())
+}
+
+/// The other calls that enter, each with its values.
+#[test]
+fn values_of_the_other_enters(rt: HostRuntime) -> Result<(), Fail> {
+    let alloc = rt.alloc();
+    let mut ring = IoUring::new(alloc, 2)?;
+    let mut submitter = Submitter::new(ring.params());
+    let mut partner = Recording {
+        inner: MemoryPartner::new(alloc),
+        last: None,
+    };
+    let args = SubmitArgs::new().min_wait_usec(5);
+    assert_eq!(rt;
+        submitter.submit_with_args(alloc, &mut ring, &mut partner, 1, args),
+        Ok(0)
+    );
+    let wanted = EnterCall {
+        ring: -1,
+        to_submit: 0,
+        want: 1,
+        flags: 9,
+        args: Some(args),
+    };
+    assert_eq!(rt; partner.last, Some(wanted));
+    assert_eq!(rt;
+        submitter.squeue_wait(alloc, &mut ring, &mut partner),
+        Ok(0)
+    );
+    assert_entered(&rt, &partner, 0, 0, EnterFlags::SQ_WAIT);
+    assert_eq!(rt;
+        submitter.enter(alloc, &mut ring, &mut partner, 3, 4, 64, None),
+        Ok(0)
+    );
+    assert_entered(&rt, &partner, 3, 4, EnterFlags::EXT_ARG_REG);
     Ok(())
 }
