@@ -1,5 +1,5 @@
 -- The cancels of a handle, one after another.
-use Rattle.std.proofs.Common.{◌≡◌, ℕ, ◌==◌, Bool, true, false, cond, List, [], ◌∷◌, ◌++◌, length, Option, Some, None, unwrap_or, refl, sym, ap, ◌∙◌, subst, arith, append_assoc, length-append, eqb-true}
+use Rattle.std.proofs.Common.{◌≡◌, ℕ, ◌==◌, Bool, true, false, cond, List, [], ◌∷◌, ◌++◌, length, map, Option, Some, None, unwrap_or, refl, sym, ap, ◌∙◌, subst, arith, append_assoc, length-append, eqb-true}
 use Rattle.std.specs.FinMap.{get, remove}
 use Rattle.uring_base.specs.declared.events.Taken.{Taken}
 use Rattle.uring_base.specs.declared.events.Completion.{Completion}
@@ -8,7 +8,7 @@ use Rattle.rent_table.specs.Lists.{list_at}
 use Rattle.rent_table.specs.Ops.{Ops, started, forgotten}
 use Rattle.rent_table.specs.Steps.{KeptSteps}
 use Rattle.rent_table.proofs.Picks.{out_at}
-use Rattle.rent_engine.specs.Engines.{Offered, all_offered, offered_cancel}
+use Rattle.rent_engine.specs.Engines.{Offered, all_offered, in_size, offered_cancel}
 use Rattle.rent_engine.specs.Handles.{IsFresh, CancelsEach}
 
 pub cancels_more : (targets : List ℕ) (ops : Ops) (ts : List Taken) (mid : Ops) (target n : ℕ) (after : Ops) → CancelsEach targets ops ts mid → IsFresh mid n → after ≡ forgotten n (started n false None mid)
@@ -35,11 +35,16 @@ offered_told (Some l) b c ts t p q =
     let next : c ≡ Some (all_offered (t ∷ []) (all_offered ts l)) = subst (λ o. Becomes o (all_offered (t ∷ [])) c) p q in
     next ∙ ap (λ (xs : List Taken). Some (record l { pushed = xs })) (append_assoc l.pushed ts (t ∷ []))
 
-module _ {R : Type 0} (used : R → List Taken → List Completion → R → Type 0) (lists : R → Option Lists) (room waiting : R → ℕ) (used_then : (a b c : R) (ts us : List Taken) (cs ds : List Completion) → used a ts cs b → used b us ds c → used a (ts ++ us) (cs ++ ds) c) where
-  pub Offered-more : (a b c : R) (ts : List Taken) (t : Taken) → Offered used lists room waiting a ts b → Offered used lists room waiting b (t ∷ []) c → Offered used lists room waiting a (ts ++ t ∷ []) c
+module _ {R : Type 0} (large : Bool) (used : R → List Taken → List Completion → R → Type 0) (lists : R → Option Lists) (room waiting : R → ℕ) (used_then : (a b c : R) (ts us : List Taken) (cs ds : List Completion) → used a ts cs b → used b us ds c → used a (ts ++ us) (cs ++ ds) c) where
+  -- one more entry in its size
+  sizes_append : (ts : List Taken) (t : Taken) → map (in_size large) (ts ++ t ∷ []) ≡ map (in_size large) ts ++ in_size large t ∷ []
+  sizes_append [] t = refl
+  sizes_append (u ∷ ts) t = ap (λ us. in_size large u ∷ us) (sizes_append ts t)
+
+  pub Offered-more : (a b c : R) (ts : List Taken) (t : Taken) → Offered large used lists room waiting a ts b → Offered large used lists room waiting b (t ∷ []) c → Offered large used lists room waiting a (ts ++ t ∷ []) c
   Offered-more a b c ts t p q = record {
-    uses = used_then a b c ts (t ∷ []) [] [] p.uses q.uses;
-    told = offered_told (lists a) (lists b) (lists c) ts t p.told q.told;
+    uses = subst (λ (us : List Taken). used a us [] c) (sym (sizes_append ts t)) (used_then a b c (map (in_size large) ts) (in_size large t ∷ []) [] [] p.uses q.uses);
+    told = subst (λ (us : List Taken). Becomes (lists a) (all_offered us) (lists c)) (sym (sizes_append ts t)) (offered_told (lists a) (lists b) (lists c) (map (in_size large) ts) (in_size large t) p.told q.told);
     places = let x = p.places in let y = q.places in let z = length-append ts (t ∷ []) in omega (arith, x, y, z);
     seen = q.seen ∙ p.seen;
   }

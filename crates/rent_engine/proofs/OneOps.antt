@@ -22,8 +22,8 @@ none_offered None = refl
 none_offered (Some l) = ap (λ (p : List Taken). Some (record l { pushed = p })) (sym (append-nil l.pushed))
 
 -- nothing was offered
-pub Offered-none : {R : Type 0} (used : R → List Taken → List Completion → R → Type 0) (lists : R → Option Lists) (room waiting : R → ℕ) → ((a : R) → used a [] [] a) → (ring after : R) → after ≡ ring → Offered used lists room waiting ring [] after
-Offered-none used lists room waiting used_none ring after e = record {
+pub Offered-none : {R : Type 0} (large : Bool) (used : R → List Taken → List Completion → R → Type 0) (lists : R → Option Lists) (room waiting : R → ℕ) → ((a : R) → used a [] [] a) → (ring after : R) → after ≡ ring → Offered large used lists room waiting ring [] after
+Offered-none large used lists room waiting used_none ring after e = record {
   uses = subst (λ r. used ring [] [] r) (sym e) (used_none ring);
   told = subst (λ r. Becomes (lists ring) (all_offered []) (lists r)) (sym e) (none_offered (lists ring));
   places = sym (ap room e) ∙ sym (add-zero (room after));

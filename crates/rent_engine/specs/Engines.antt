@@ -1,5 +1,5 @@
 -- What a contract sees of an engine, and what its calls do with the rings.
-use Rattle.std.specs.Prelude.{◌≡◌, ℕ, ◌+◌, ◌-◌, ◌^◌, ◌≤◌, ◌||◌, Bool, min, bit_and, bit_or, refl, Option, Some, None, IfSome, Result, List, [], ◌++◌, length, count_by}
+use Rattle.std.specs.Prelude.{◌≡◌, ℕ, ◌+◌, ◌-◌, ◌^◌, ◌≤◌, ◌||◌, Bool, min, bit_and, bit_or, refl, Option, Some, None, IfSome, Result, List, [], ◌++◌, length, map, count_by}
 use Rattle.std.specs.Int.{w8, bit_not}
 use Rattle.std.specs.Coded.{Coded, code_by, coded×, coded_ℕ, coded_bool, coded_list}
 use Rattle.uring_base.specs.FlagBits.{bits_in, has_flags}
@@ -50,6 +50,10 @@ with_skip_success flags = bit_or flags (bits_in SKIP_SUCCESS)
 abbrev pub links_next : Entry → Bool
 links_next entry = has_flags entry.flags IO_LINK || has_flags entry.flags IO_HARDLINK
 
+-- an entry in the size that the ring gives to what is offered
+abbrev pub in_size : Bool → Taken → Taken
+in_size large t = record t { large = large }
+
 -- what is offered for an operation: its entry under its number, with its buffer lent
 abbrev pub offered_entry : ℕ → Entry → ℕ → Option Buf → Taken
 offered_entry n entry from buf = small (record entry { flags = without_skip_success entry.flags; user_data = n }) (loan_of n from buf)
@@ -75,14 +79,14 @@ pub record Reaped (cs : List Completion) (before after : Lists) : Type 0 where
   pub capacity : after.capacity ≡ before.capacity
   pub completion_capacity : after.completion_capacity ≡ before.completion_capacity
 
-module _ {R : Type 0} (used : R → List Taken → List Completion → R → Type 0) (lists : R → Option Lists) (room waiting : R → ℕ) where
-  -- these entries were offered, and nothing else was done
-  pub record Offered (before : R) (ts : List Taken) (after : R) : Type 0 where
-    pub uses : used before ts [] after
-    pub told : Becomes (lists before) (all_offered ts) (lists after)
-    pub places : room before ≡ room after + length ts
-    pub seen : waiting after ≡ waiting before
+-- these entries were offered, which the ring gives its size, and nothing else was done
+pub record Offered {R : Type 0} (large : Bool) (used : R → List Taken → List Completion → R → Type 0) (lists : R → Option Lists) (room waiting : R → ℕ) (before : R) (ts : List Taken) (after : R) : Type 0 where
+  pub uses : used before (map (in_size large) ts) [] after
+  pub told : Becomes (lists before) (all_offered (map (in_size large) ts)) (lists after)
+  pub places : room before ≡ room after + length ts
+  pub seen : waiting after ≡ waiting before
 
+module _ {R : Type 0} (used : R → List Taken → List Completion → R → Type 0) (lists : R → Option Lists) (room waiting : R → ℕ) where
   -- what is offered is published, what the partner did is seen, and completions are reaped and taken one after another
   pub record Pumped (before after : R) (ops ops' : Ops) (steps steps' : KeptSteps) (end : Result (Unit {0}) EngineFault) : Type 0 where
     pub completions : List Completion

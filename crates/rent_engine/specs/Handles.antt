@@ -19,12 +19,12 @@ CancelsEach [] ops ts after = (ts ≡ []) × (after ≡ ops)
 CancelsEach (target ∷ targets) ops ts after =
     (n : ℕ) × (rest : List Taken) × IsFresh ops n × (ts ≡ offered_cancel target n ∷ rest) × CancelsEach targets (forgotten n (started n false None ops)) rest after
 
-module _ {R : Type 0} (used : R → List Taken → List Completion → R → Type 0) (lists : R → Option Lists) (room waiting : R → ℕ) where
+module _ {R : Type 0} (large : Bool) (used : R → List Taken → List Completion → R → Type 0) (lists : R → Option Lists) (room waiting : R → ℕ) where
   -- The numbers that are joined to the handle are canceled, and it is marked; or they are more than the ring has room for.
   abbrev pub HandleEnds : ℕ → R → R → Ops → Ops → List Bool → List Bool → Result ℕ StartFault → Type 0
   HandleEnds h before after ops ops' handles handles' (Ok count) =
       (targets : List ℕ) × AreJoined ops h targets × (count ≡ length targets) × (handles' ≡ slice_set handles h true)
-      × (ts : List Taken) × Offered used lists room waiting before ts after × CancelsEach targets ops ts ops'
+      × (ts : List Taken) × Offered large used lists room waiting before ts after × CancelsEach targets ops ts ops'
   HandleEnds h before after ops ops' handles handles' (Err (RingFull buf)) = (buf ≡ None) × (targets : List ℕ) × AreJoined ops h targets × (room before < length targets)
   HandleEnds h before after ops ops' handles handles' (Err (NoMemory buf)) = buf ≡ None
   HandleEnds h before after ops ops' handles handles' (Err (KeyInUse buf)) = ⊥

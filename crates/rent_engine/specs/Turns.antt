@@ -1,5 +1,5 @@
 -- What one turn does with the rings, the partner and the operations.
-use Rattle.std.specs.Prelude.{◌≡◌, ℕ, List, [], length, Option, IfSome, IfOk, Result, Ok, Err}
+use Rattle.std.specs.Prelude.{◌≡◌, ℕ, List, [], length, Option, None, IfSome, IfOk, Result, Ok, Err}
 use Rattle.uring_base.specs.declared.events.Taken.{Taken}
 use Rattle.uring_base.specs.declared.events.Completion.{Completion}
 use Rattle.uring_base.specs.declared.events.LogEvent.{LogEvent}
@@ -24,7 +24,7 @@ module _ {W : Type 0} (m : Machine W) {P R : Type 0} (log : P → Option (List L
     pub told : Becomes (lists before) all_published (lists shown)
     pub published : ℕ
     pub counted : IfSome (lists shown) (λ l. published ≡ length l.published)
-    pub enters : EntersOnce m log state lists ready space moved (wanted_call published (flags_word shown) params 1) old new shown after result
+    pub enters : EntersOnce m log state lists ready space moved (wanted_call published (flags_word shown) params None 1 None) old new shown after result
 
   module _ (room waiting : R → ℕ) where
     -- after an enter that succeeds all is pumped, and the report says how many were taken; after another nothing more is done

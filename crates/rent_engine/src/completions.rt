@@ -38,6 +38,7 @@ impl<R: UserEnds> Engine<R> {
             result,
             flags,
             big: _,
+            large: _,
             loan,
         } = completion;
         let Some(flight) = self.operations.flight(number) else {

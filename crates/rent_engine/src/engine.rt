@@ -12,25 +12,23 @@ use ring_setup::Parameters;
 use ring_traits::UserEnds;
 use std::alloc::{AllocError, Global};
 use std::marker::Model;
-use uring_submit::Submitter;
 
 /// A pair of rings, and the operations that were started on it.
 #[derive(Drop)]
 pub struct Engine<R: UserEnds> {
     pub(crate) ring: R,
-    pub(crate) submitter: Submitter,
+    pub(crate) params: Parameters,
     pub(crate) operations: Operations,
 }
 
 impl<R: UserEnds> Model for Engine<R> {
-    ghost use Rattle.uring_submit.specs.Submits.{params_of};
     ghost use Rattle.rent_engine.specs.Engines.{EngineState, engine_code};
 
     ghost Value = { EngineState R };
 
     ghost coded = { engine_code R.code };
 
-    ghost view = { λ e. record { ring = e.ring; params = params_of e.submitter; ops = e.operations.ops; steps = e.operations.steps; handles = e.operations.handles; spare = e.operations.spare; step_room = e.operations.step_room } };
+    ghost view = { λ e. record { ring = e.ring; params = e.params; ops = e.operations.ops; steps = e.operations.steps; handles = e.operations.handles; spare = e.operations.spare; step_room = e.operations.step_room } };
 }
 
 impl<R: UserEnds> Engine<R> {
@@ -44,7 +42,7 @@ impl<R: UserEnds> Engine<R> {
     {
         Engine {
             ring,
-            submitter: Submitter::new(&params),
+            params,
             operations: Operations::new(alloc),
         }
     }

@@ -158,7 +158,7 @@ where
         alloc: Global,
         engine: &mut Engine<R>,
     ) -> Result<usize, ExecFault>
-        ensures polled { OnOk result (IsRound (Offered R.used R.lists R.room R.waiting) R.room T.key T.offers T.done T.polls
+        ensures polled { OnOk result (IsRound (Offered R.offers_large R.used R.lists R.room R.waiting) R.room T.key T.offers T.done T.polls
             (record { ring = engine.old.ring; ops = engine.old.ops; tasks = self.old }) (record { ring = engine.new.ring; ops = engine.new.ops; tasks = self.new })) }
         ensures count { IfOk result (λ n. n ≡ length self.new.unfinished) }
         ensures waits { OnOk result (list_all (task_waits T.key T.offers engine.new.ops (R.room engine.new.ring)) self.new.unfinished ≡ true) }
@@ -182,7 +182,7 @@ where
         partner: &mut P,
         turns: u32,
     ) -> Result<u32, ExecFault>
-        ensures ran { RunEnds (IsRound (Offered R.used R.lists R.room R.waiting) R.room T.key T.offers T.done T.polls)
+        ensures ran { RunEnds (IsRound (Offered R.offers_large R.used R.lists R.room R.waiting) R.room T.key T.offers T.done T.polls)
             (HasTurned P.machine P.log P.state R.lists R.ready R.space R.moved R.flags_word R.used R.room R.waiting engine.old.params) turns
             (record { partner = partner.old; scene = record { ring = engine.old.ring; ops = engine.old.ops; tasks = self.old } })
             (record { partner = partner.new; scene = record { ring = engine.new.ring; ops = engine.new.ops; tasks = self.new } }) result }
@@ -216,7 +216,7 @@ where
     T::Output: Drop,
     requires undone { list_all (λ t. not (T.done t.1)) unfinished.old.items ≡ true }
     requires room { deque_len unfinished.old ≤ spare outputs.old }
-    ensures polled { (next : ℕ) → AllPolled (Offered R.used R.lists R.room R.waiting) R.room T.key T.offers T.done T.polls unfinished.old.items
+    ensures polled { (next : ℕ) → AllPolled (Offered R.offers_large R.used R.lists R.room R.waiting) R.room T.key T.offers T.done T.polls unfinished.old.items
         (record { ring = engine.old.ring; ops = engine.old.ops; tasks = record { next = next; unfinished = []; outputs = from_entries outputs.old.entries } })
         (record { ring = engine.new.ring; ops = engine.new.ops; tasks = record { next = next; unfinished = unfinished.new.items; outputs = from_entries outputs.new.entries } }) }
     ensures params { engine.new.params ≡ engine.old.params }
@@ -238,7 +238,7 @@ where
     requires some { 0 < deque_len unfinished.old }
     requires undone { (t : ℕ × T) → (ts : List (ℕ × T)) → unfinished.old.items ≡ t ∷ ts → T.done t.1 ≡ false }
     requires room { 0 < spare outputs.old }
-    ensures polled { PollsFirst (Offered R.used R.lists R.room R.waiting) R.room T.key T.offers T.done T.polls
+    ensures polled { PollsFirst (Offered R.offers_large R.used R.lists R.room R.waiting) R.room T.key T.offers T.done T.polls
         unfinished.old.items (from_entries outputs.old.entries) engine.old.ring engine.old.ops
         unfinished.new.items (from_entries outputs.new.entries) engine.new.ring engine.new.ops }
     ensures room { spare outputs.old ≤ spare outputs.new + 1 }

@@ -72,7 +72,7 @@ impl<R: UserEnds> Engine<R> {
     /// that isn't known it does nothing.
     pub fn cancel_handle(&mut self, alloc: Global, handle: CancelHandle) -> Result<u32, StartFault>
         ensures unknown { knows_handle self.old.handles handle ≡ false → (result ≡ Ok 0) × (self.new.ops ≡ self.old.ops) × (self.new.ring ≡ self.old.ring) × (self.new.handles ≡ self.old.handles) }
-        ensures canceled { knows_handle self.old.handles handle ≡ true → HandleEnds R.used R.lists R.room R.waiting handle self.old.ring self.new.ring self.old.ops self.new.ops self.old.handles self.new.handles result }
+        ensures canceled { knows_handle self.old.handles handle ≡ true → HandleEnds R.offers_large R.used R.lists R.room R.waiting handle self.old.ring self.new.ring self.old.ops self.new.ops self.old.handles self.new.handles result }
         ensures unchanged { OnErr result ((self.new.ops ≡ self.old.ops) × (self.new.ring ≡ self.old.ring) × (self.new.handles ≡ self.old.handles)) }
         ensures steps { (n : ℕ) → list_at self.new.steps n ≡ list_at self.old.steps n }
         ensures step_room { self.old.step_room ≤ self.new.step_room }
@@ -100,7 +100,7 @@ impl<R: UserEnds> Engine<R> {
     fn cancel_each(&mut self, alloc: Global, targets: &[u64])
         requires room { length targets.now ≤ R.room self.old.ring }
         requires spare { length targets.now ≤ self.old.spare }
-        ensures canceled { (ts : List Taken) × Offered R.used R.lists R.room R.waiting self.old.ring ts self.new.ring × CancelsEach targets.now self.old.ops ts self.new.ops }
+        ensures canceled { (ts : List Taken) × Offered R.offers_large R.used R.lists R.room R.waiting self.old.ring ts self.new.ring × CancelsEach targets.now self.old.ops ts self.new.ops }
         ensures steps { (n : ℕ) → list_at self.new.steps n ≡ list_at self.old.steps n }
         ensures handles { self.new.handles ≡ self.old.handles }
         ensures step_room { self.old.step_room ≤ self.new.step_room }
@@ -115,7 +115,7 @@ impl<R: UserEnds> Engine<R> {
     fn cancel_one(&mut self, alloc: Global, target: u64)
         requires room { 0 < R.room self.old.ring }
         requires spare { 0 < self.old.spare }
-        ensures one { (n : ℕ) × IsFresh self.old.ops n × Offered R.used R.lists R.room R.waiting self.old.ring (offered_cancel target n ∷ []) self.new.ring × (self.new.ops ≡ forgotten n (started n false None self.old.ops)) }
+        ensures one { (n : ℕ) × IsFresh self.old.ops n × Offered R.offers_large R.used R.lists R.room R.waiting self.old.ring (offered_cancel target n ∷ []) self.new.ring × (self.new.ops ≡ forgotten n (started n false None self.old.ops)) }
         ensures steps { (n : ℕ) → list_at self.new.steps n ≡ list_at self.old.steps n }
         ensures handles { self.new.handles ≡ self.old.handles }
         ensures spare { self.old.spare ≤ self.new.spare + 1 }

@@ -135,7 +135,7 @@ impl OneOp {
     ) -> Poll<OneAnswer>
         requires over { self.old ≡ Stage.Over }
         requires placed { IsPlaced request }
-        ensures polls { (ts : List Taken) × Offered R.used R.lists R.room R.waiting engine.old.ring ts engine.new.ring
+        ensures polls { (ts : List Taken) × Offered R.offers_large R.used R.lists R.room R.waiting engine.old.ring ts engine.new.ring
             × OneStep (Stage.Offers request) engine.old.ops ts result engine.new.ops self.new }
         ensures pending { is_pending result ≡ waits_on (stage_key self.new) (stage_offers self.new) engine.new.ops (R.room engine.new.ring) }
         ensures done { stage_over self.new ≡ not (is_pending result) }
@@ -178,7 +178,7 @@ impl OneOp {
 
     fn look<R: UserEnds>(&mut self, engine: &mut Engine<R>, key: OpKey) -> Poll<OneAnswer>
         requires { self.old ≡ Stage.Over }
-        ensures polls { (ts : List Taken) × Offered R.used R.lists R.room R.waiting engine.old.ring ts engine.new.ring
+        ensures polls { (ts : List Taken) × Offered R.offers_large R.used R.lists R.room R.waiting engine.old.ring ts engine.new.ring
             × OneStep (Stage.Waits key) engine.old.ops ts result engine.new.ops self.new }
         ensures pending { is_pending result ≡ waits_on (stage_key self.new) (stage_offers self.new) engine.new.ops (R.room engine.new.ring) }
         ensures done { stage_over self.new ≡ not (is_pending result) }
@@ -212,7 +212,7 @@ impl OpState for OneOp {
 
     fn poll<R: UserEnds>(&mut self, alloc: Global, engine: &mut Engine<R>) -> Poll<OneAnswer>
         requires { stage_over self.old ≡ false }
-        ensures polls { (ts : List Taken) × Offered R.used R.lists R.room R.waiting engine.old.ring ts engine.new.ring
+        ensures polls { (ts : List Taken) × Offered R.offers_large R.used R.lists R.room R.waiting engine.old.ring ts engine.new.ring
             × OneStep self.old engine.old.ops ts result engine.new.ops self.new }
         ensures pending { is_pending result ≡ waits_on (stage_key self.new) (stage_offers self.new) engine.new.ops (R.room engine.new.ring) }
         ensures done { stage_over self.new ≡ not (is_pending result) }

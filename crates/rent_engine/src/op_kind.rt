@@ -93,7 +93,7 @@ impl<K: OpKind> OpState for SingleOp<K> {
 
     fn poll<R: UserEnds>(&mut self, alloc: Global, engine: &mut Engine<R>) -> Poll<K::Output>
         requires { stage_over self.old.op ≡ false }
-        ensures polls { (ts : List Taken) × Offered R.used R.lists R.room R.waiting engine.old.ring ts engine.new.ring
+        ensures polls { (ts : List Taken) × Offered R.offers_large R.used R.lists R.room R.waiting engine.old.ring ts engine.new.ring
             × PollsAs (K.gives self.old.kind) self.old.op engine.old.ops ts result engine.new.ops self.new.op }
         ensures pending { is_pending result ≡ waits_on (stage_key self.new.op) (stage_offers self.new.op) engine.new.ops (R.room engine.new.ring) }
         ensures done { stage_over self.new.op ≡ not (is_pending result) }

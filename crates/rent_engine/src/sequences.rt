@@ -143,7 +143,7 @@ impl<P: Plan> Sequence<P, P::Output> {
         request: Request,
     ) -> Poll<P::Output>
         requires placed { IsPlaced request }
-        ensures asks { (ts : List Taken) × Offered R.used R.lists R.room R.waiting engine.old.ring ts engine.new.ring
+        ensures asks { (ts : List Taken) × Offered R.offers_large R.used R.lists R.room R.waiting engine.old.ring ts engine.new.ring
             × AsksOn P.follows self.old request engine.old.ops ts result engine.new.ops self.new }
         ensures pending { is_pending result ≡ waits_on (stage_key self.new.op) (stage_offers self.new.op) engine.new.ops (R.room engine.new.ring) }
         ensures done { stage_over self.new.op ≡ not (is_pending result) }
@@ -171,7 +171,7 @@ impl<P: Plan> Sequence<P, P::Output> {
         answer: OneAnswer,
     ) -> Poll<P::Output>
         requires { stage_over self.old.op ≡ true }
-        ensures followed { (ts : List Taken) × Offered R.used R.lists R.room R.waiting engine.old.ring ts engine.new.ring
+        ensures followed { (ts : List Taken) × Offered R.offers_large R.used R.lists R.room R.waiting engine.old.ring ts engine.new.ring
             × Followed P.follows self.old answer engine.old.ops ts result engine.new.ops self.new }
         ensures pending { is_pending result ≡ waits_on (stage_key self.new.op) (stage_offers self.new.op) engine.new.ops (R.room engine.new.ring) }
         ensures done { stage_over self.new.op ≡ not (is_pending result) }

@@ -31,7 +31,7 @@ impl<R: UserEnds> Engine<R> {
         requires { IfSome buf (λ b. from ≤ length b) }
         ensures key { IfOk result (λ key. key ≡ number) }
         ensures ops { OnOk result (self.new.ops ≡ started number (is_some buf) None self.old.ops) }
-        ensures offered { OnOk result (Offered R.used R.lists R.room R.waiting self.old.ring (offered_entry number entry from buf ∷ []) self.new.ring) }
+        ensures offered { OnOk result (Offered R.offers_large R.used R.lists R.room R.waiting self.old.ring (offered_entry number entry from buf ∷ []) self.new.ring) }
         ensures key_in_use { is_key_in_use result ≡ knows self.old.ops number }
         ensures ring_full { is_ring_full result ≡ (not (knows self.old.ops number) && (R.room self.old.ring == 0)) }
         ensures steps { self.new.steps ≡ self.old.steps }
@@ -77,7 +77,7 @@ impl<R: UserEnds> Engine<R> {
         requires apart { next ≢ number }
         ensures key { IfOk result (λ key. key ≡ number) }
         ensures ops { OnOk result (self.new.ops ≡ started number false (Some next) self.old.ops) }
-        ensures offered { OnOk result (Offered R.used R.lists R.room R.waiting self.old.ring (offered_quiet number entry ∷ []) self.new.ring) }
+        ensures offered { OnOk result (Offered R.offers_large R.used R.lists R.room R.waiting self.old.ring (offered_quiet number entry ∷ []) self.new.ring) }
         ensures key_in_use { is_key_in_use result ≡ knows self.old.ops number }
         ensures ring_full { is_ring_full result ≡ (not (knows self.old.ops number) && (R.room self.old.ring == 0)) }
         ensures steps { self.new.steps ≡ self.old.steps }
@@ -114,7 +114,7 @@ impl<R: UserEnds> Engine<R> {
     pub fn cancel(&mut self, alloc: Global, target: u64, number: u64) -> Result<OpKey, StartFault>
         ensures key { IfOk result (λ key. key ≡ number) }
         ensures ops { OnOk result (self.new.ops ≡ started number false None self.old.ops) }
-        ensures offered { OnOk result (Offered R.used R.lists R.room R.waiting self.old.ring (offered_cancel target number ∷ []) self.new.ring) }
+        ensures offered { OnOk result (Offered R.offers_large R.used R.lists R.room R.waiting self.old.ring (offered_cancel target number ∷ []) self.new.ring) }
         ensures key_in_use { is_key_in_use result ≡ knows self.old.ops number }
         ensures ring_full { is_ring_full result ≡ (not (knows self.old.ops number) && (R.room self.old.ring == 0)) }
         ensures steps { self.new.steps ≡ self.old.steps }

@@ -50,7 +50,7 @@ pub trait OpState {
     /// Goes on as far as it can. It isn't called once the state is done.
     fn poll<R: UserEnds>(&mut self, alloc: Global, engine: &mut Engine<R>) -> Poll<Self::Output>
         requires { done self.old ≡ false }
-        ensures polls { (ts : List Taken) × Offered R.used R.lists R.room R.waiting engine.old.ring ts engine.new.ring
+        ensures polls { (ts : List Taken) × Offered R.offers_large R.used R.lists R.room R.waiting engine.old.ring ts engine.new.ring
             × polls self.old engine.old.ops ts result engine.new.ops self.new }
         ensures pending { is_pending result ≡ waits_on (key self.new) (offers self.new) engine.new.ops (R.room engine.new.ring) }
         ensures done { done self.new ≡ not (is_pending result) }

@@ -13,7 +13,7 @@ use crate::ops::TurnReport;
 use partner_traits::Partner;
 use ring_traits::{PartnerSide, UserEnds};
 use std::alloc::Global;
-use uring_submit::SubmitError;
+use uring_submit::{SubmitError, Submitter};
 
 impl<R: UserEnds + PartnerSide> Engine<R> {
     /// Shows the partner what was offered, has it enter once and wait for one completion, and
@@ -59,7 +59,7 @@ impl<R: UserEnds + PartnerSide> Engine<R> {
         ensures params { self.new.params ≡ self.old.params }
     {
         self.ring.publish();
-        self.submitter
-            .submit_and_wait(alloc, &mut self.ring, partner, 1)
+        let mut submitter = Submitter::new(&self.params);
+        submitter.submit_and_wait(alloc, &mut self.ring, partner, 1)
     }
 }

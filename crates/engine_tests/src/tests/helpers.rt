@@ -71,6 +71,7 @@ pub fn completion(number: u64, flags: u32, loan: Option<Loan>) -> Completion {
         result: 7,
         flags,
         big: [0; 2],
+        large: false,
         loan,
     }
 }

@@ -16,7 +16,7 @@ pub poll_first-requires-clause-undone : goal.poll_first-requires-clause-undone
 poll_first-requires-clause-undone g c =
     let left : c.len-end.result - c.loop.counter ≡ suc (c.len-end.result - (c.loop.counter + 1)) = omega arith in
     first_undone _ _ _ _ _ _ _ _ _ _ _ _ _ _ _
-    (subst (λ n. IsGoing (Offered g.R.UserEnds.used g.R.Rings.lists g.R.UserEnds.room g.R.UserEnds.waiting) g.R.UserEnds.room g.T.OpState.key g.T.OpState.offers g.T.OpState.done g.T.OpState.polls
+    (subst (λ n. IsGoing (Offered g.R.UserEnds.offers_large g.R.UserEnds.used g.R.Rings.lists g.R.UserEnds.room g.R.UserEnds.waiting) g.R.UserEnds.room g.T.OpState.key g.T.OpState.offers g.T.OpState.done g.T.OpState.polls
     c.args.unfinished.now.items (from_entries c.args.outputs.now.entries) c.args.engine.now.ring c.args.engine.now.ops n c.loop.unfinished.items (from_entries c.loop.outputs.entries) c.loop.engine.ring c.loop.engine.ops) left c.loop.invariant.going)
 
 pub loop-preserved : goal.loop-preserved
@@ -24,7 +24,7 @@ loop-preserved g c =
     let left : c.len-end.result - c.loop.counter ≡ suc (c.len-end.result - (c.loop.counter + 1)) = omega arith in
     record {
       going = going_on _ _ _ _ _ _ _ _ _ _ _ _ _ _ _ _ _ _ _
-          (subst (λ n. IsGoing (Offered g.R.UserEnds.used g.R.Rings.lists g.R.UserEnds.room g.R.UserEnds.waiting) g.R.UserEnds.room g.T.OpState.key g.T.OpState.offers g.T.OpState.done g.T.OpState.polls
+          (subst (λ n. IsGoing (Offered g.R.UserEnds.offers_large g.R.UserEnds.used g.R.Rings.lists g.R.UserEnds.room g.R.UserEnds.waiting) g.R.UserEnds.room g.T.OpState.key g.T.OpState.offers g.T.OpState.done g.T.OpState.polls
           c.args.unfinished.now.items (from_entries c.args.outputs.now.entries) c.args.engine.now.ring c.args.engine.now.ops n c.loop.unfinished.items (from_entries c.loop.outputs.entries) c.loop.engine.ring c.loop.engine.ops) left c.loop.invariant.going)
           c.poll_first.ensures.polled;
       few = let a = c.loop-test.true in omega (arith, a);

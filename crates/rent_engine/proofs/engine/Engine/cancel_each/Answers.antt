@@ -31,7 +31,7 @@ loop-target-preserved g c =
     let step_room' = c.cancel_one.ensures.step_room in
     record {
       entries = i.entries ++ offered_cancel target one.0 ∷ [];
-      offered = Offered-more g.R.UserEnds.used g.R.Rings.lists g.R.UserEnds.room g.R.UserEnds.waiting g.met.R.UserEnds.used_then c.args.self.now.ring c.loop-target.self.ring c.cancel_one.new.self.ring i.entries (offered_cancel target one.0) i.offered one.2;
+      offered = Offered-more g.R.UserEnds.offers_large g.R.UserEnds.used g.R.Rings.lists g.R.UserEnds.room g.R.UserEnds.waiting g.met.R.UserEnds.used_then c.args.self.now.ring c.loop-target.self.ring c.cancel_one.new.self.ring i.entries (offered_cancel target one.0) i.offered one.2;
       canceled = subst (λ (ts : List ℕ). CancelsEach ts c.args.self.now.ops (i.entries ++ offered_cancel target one.0 ∷ []) c.cancel_one.new.self.ops) (sym (take_more targets at 0 c.loop-target-test.true))
           (cancels_more (take at targets) c.args.self.now.ops i.entries c.loop-target.self.ops target one.0 c.cancel_one.new.self.ops i.canceled one.1 one.3);
       count = omega (arith, count, more);

@@ -8,7 +8,7 @@ use Rattle.rent_engine.proofs.engine.Engine.cancel_each.Given as goal
 abbrev pub invariant-loop-target : goal.invariant-loop-target
 invariant-loop-target g l = record {
   entries : List Taken;
-  offered : Offered g.R.UserEnds.used g.R.Rings.lists g.R.UserEnds.room g.R.UserEnds.waiting l.fn.self.ring entries l.self.ring;
+  offered : Offered g.R.UserEnds.offers_large g.R.UserEnds.used g.R.Rings.lists g.R.UserEnds.room g.R.UserEnds.waiting l.fn.self.ring entries l.self.ring;
   canceled : CancelsEach (take l.target-index l.targets) l.fn.self.ops entries l.self.ops;
   count : length entries ≡ l.target-index;
   steps : (n : ℕ) → list_at l.self.steps n ≡ list_at l.fn.self.steps n;

@@ -22,7 +22,7 @@ returns-then-branch-eq0-clause-ran g c =
 
 pub returns-in_err-turn-clause-ran : goal.returns-in_err-turn-clause-ran
 returns-in_err-turn-clause-ran g c =
-    turn_ends (IsRound (Offered g.R.UserEnds.used g.R.Rings.lists g.R.UserEnds.room g.R.UserEnds.waiting) g.R.UserEnds.room g.T.OpState.key g.T.OpState.offers g.T.OpState.done g.T.OpState.polls) (HasTurned g.P.Partner.machine g.P.Partner.log g.P.Partner.state g.R.Rings.lists g.R.PartnerSide.ready g.R.PartnerSide.space g.R.PartnerSide.moved g.R.PartnerSide.flags_word g.R.UserEnds.used g.R.UserEnds.room g.R.UserEnds.waiting c.args.engine.now.params) c.args.turns c.loop-used.used
+    turn_ends (IsRound (Offered g.R.UserEnds.offers_large g.R.UserEnds.used g.R.Rings.lists g.R.UserEnds.room g.R.UserEnds.waiting) g.R.UserEnds.room g.T.OpState.key g.T.OpState.offers g.T.OpState.done g.T.OpState.polls) (HasTurned g.P.Partner.machine g.P.Partner.log g.P.Partner.state g.R.Rings.lists g.R.PartnerSide.ready g.R.PartnerSide.space g.R.PartnerSide.moved g.R.PartnerSide.flags_word g.R.UserEnds.used g.R.UserEnds.room g.R.UserEnds.waiting c.args.engine.now.params) c.args.turns c.loop-used.used
     (record { partner = c.args.partner.now; scene = record { ring = c.args.engine.now.ring; ops = c.args.engine.now.ops; tasks = c.args.self.now } })
     (record { partner = c.loop-used.partner; scene = record { ring = c.loop-used.engine.ring; ops = c.loop-used.engine.ops; tasks = c.loop-used.self } })
     (record { partner = c.turn.new.partner; scene = record { ring = c.turn.new.self.ring; ops = c.turn.new.self.ops; tasks = c.round.new.self } })
@@ -38,7 +38,7 @@ returns-in_err-turn-clause-ran g c =
 
 pub loop-used-preserved : goal.loop-used-preserved
 loop-used-preserved g c = record {
-  cycles = one_cycle_more (IsRound (Offered g.R.UserEnds.used g.R.Rings.lists g.R.UserEnds.room g.R.UserEnds.waiting) g.R.UserEnds.room g.T.OpState.key g.T.OpState.offers g.T.OpState.done g.T.OpState.polls) (HasTurned g.P.Partner.machine g.P.Partner.log g.P.Partner.state g.R.Rings.lists g.R.PartnerSide.ready g.R.PartnerSide.space g.R.PartnerSide.moved g.R.PartnerSide.flags_word g.R.UserEnds.used g.R.UserEnds.room g.R.UserEnds.waiting c.args.engine.now.params) c.loop-used.used
+  cycles = one_cycle_more (IsRound (Offered g.R.UserEnds.offers_large g.R.UserEnds.used g.R.Rings.lists g.R.UserEnds.room g.R.UserEnds.waiting) g.R.UserEnds.room g.T.OpState.key g.T.OpState.offers g.T.OpState.done g.T.OpState.polls) (HasTurned g.P.Partner.machine g.P.Partner.log g.P.Partner.state g.R.Rings.lists g.R.PartnerSide.ready g.R.PartnerSide.space g.R.PartnerSide.moved g.R.PartnerSide.flags_word g.R.UserEnds.used g.R.UserEnds.room g.R.UserEnds.waiting c.args.engine.now.params) c.loop-used.used
       (record { partner = c.args.partner.now; scene = record { ring = c.args.engine.now.ring; ops = c.args.engine.now.ops; tasks = c.args.self.now } })
       (record { partner = c.loop-used.partner; scene = record { ring = c.loop-used.engine.ring; ops = c.loop-used.engine.ops; tasks = c.loop-used.self } })
       (record { partner = c.turn.new.partner; scene = record { ring = c.turn.new.self.ring; ops = c.turn.new.self.ops; tasks = c.round.new.self } })
@@ -63,7 +63,7 @@ returns-then-branch-gt0-clause-ran g c =
     let all : c.loop-used.used ≡ c.args.turns = omega arith in (
       record {
         last = record { partner = c.loop-used.partner; scene = record { ring = c.loop-used.engine.ring; ops = c.loop-used.engine.ops; tasks = c.loop-used.self } };
-        cycles = subst (λ n. Cycles (IsRound (Offered g.R.UserEnds.used g.R.Rings.lists g.R.UserEnds.room g.R.UserEnds.waiting) g.R.UserEnds.room g.T.OpState.key g.T.OpState.offers g.T.OpState.done g.T.OpState.polls) (HasTurned g.P.Partner.machine g.P.Partner.log g.P.Partner.state g.R.Rings.lists g.R.PartnerSide.ready g.R.PartnerSide.space g.R.PartnerSide.moved g.R.PartnerSide.flags_word g.R.UserEnds.used g.R.UserEnds.room g.R.UserEnds.waiting c.args.engine.now.params) n
+        cycles = subst (λ n. Cycles (IsRound (Offered g.R.UserEnds.offers_large g.R.UserEnds.used g.R.Rings.lists g.R.UserEnds.room g.R.UserEnds.waiting) g.R.UserEnds.room g.T.OpState.key g.T.OpState.offers g.T.OpState.done g.T.OpState.polls) (HasTurned g.P.Partner.machine g.P.Partner.log g.P.Partner.state g.R.Rings.lists g.R.PartnerSide.ready g.R.PartnerSide.space g.R.PartnerSide.moved g.R.PartnerSide.flags_word g.R.UserEnds.used g.R.UserEnds.room g.R.UserEnds.waiting c.args.engine.now.params) n
             (record { partner = c.args.partner.now; scene = record { ring = c.args.engine.now.ring; ops = c.args.engine.now.ops; tasks = c.args.self.now } })
             (record { partner = c.loop-used.partner; scene = record { ring = c.loop-used.engine.ring; ops = c.loop-used.engine.ops; tasks = c.loop-used.self } })) all c.loop-used.invariant.cycles;
         round = c.in_ok-round-2.ensures.polled;
@@ -80,7 +80,7 @@ returns-clause-ran g c =
       omega arith,
       record {
         last = record { partner = c.loop-used.partner; scene = record { ring = c.loop-used.engine.ring; ops = c.loop-used.engine.ops; tasks = c.loop-used.self } };
-        cycles = subst (λ n. Cycles (IsRound (Offered g.R.UserEnds.used g.R.Rings.lists g.R.UserEnds.room g.R.UserEnds.waiting) g.R.UserEnds.room g.T.OpState.key g.T.OpState.offers g.T.OpState.done g.T.OpState.polls) (HasTurned g.P.Partner.machine g.P.Partner.log g.P.Partner.state g.R.Rings.lists g.R.PartnerSide.ready g.R.PartnerSide.space g.R.PartnerSide.moved g.R.PartnerSide.flags_word g.R.UserEnds.used g.R.UserEnds.room g.R.UserEnds.waiting c.args.engine.now.params) n
+        cycles = subst (λ n. Cycles (IsRound (Offered g.R.UserEnds.offers_large g.R.UserEnds.used g.R.Rings.lists g.R.UserEnds.room g.R.UserEnds.waiting) g.R.UserEnds.room g.T.OpState.key g.T.OpState.offers g.T.OpState.done g.T.OpState.polls) (HasTurned g.P.Partner.machine g.P.Partner.log g.P.Partner.state g.R.Rings.lists g.R.PartnerSide.ready g.R.PartnerSide.space g.R.PartnerSide.moved g.R.PartnerSide.flags_word g.R.UserEnds.used g.R.UserEnds.room g.R.UserEnds.waiting c.args.engine.now.params) n
             (record { partner = c.args.partner.now; scene = record { ring = c.args.engine.now.ring; ops = c.args.engine.now.ops; tasks = c.args.self.now } })
             (record { partner = c.loop-used.partner; scene = record { ring = c.loop-used.engine.ring; ops = c.loop-used.engine.ops; tasks = c.loop-used.self } })) all c.loop-used.invariant.cycles;
         round = c.in_ok-round-2.ensures.polled;

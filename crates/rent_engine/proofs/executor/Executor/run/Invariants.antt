@@ -6,7 +6,7 @@ use Rattle.rent_engine.proofs.executor.Executor.run.Given as goal
 
 abbrev pub invariant-loop-used : goal.invariant-loop-used
 invariant-loop-used g l = record {
-  cycles : Cycles (IsRound (Offered g.R.UserEnds.used g.R.Rings.lists g.R.UserEnds.room g.R.UserEnds.waiting) g.R.UserEnds.room g.T.OpState.key g.T.OpState.offers g.T.OpState.done g.T.OpState.polls)
+  cycles : Cycles (IsRound (Offered g.R.UserEnds.offers_large g.R.UserEnds.used g.R.Rings.lists g.R.UserEnds.room g.R.UserEnds.waiting) g.R.UserEnds.room g.T.OpState.key g.T.OpState.offers g.T.OpState.done g.T.OpState.polls)
       (HasTurned g.P.Partner.machine g.P.Partner.log g.P.Partner.state g.R.Rings.lists g.R.PartnerSide.ready g.R.PartnerSide.space g.R.PartnerSide.moved g.R.PartnerSide.flags_word g.R.UserEnds.used g.R.UserEnds.room g.R.UserEnds.waiting l.fn.engine.params)
       l.used
       (record { partner = l.fn.partner; scene = record { ring = l.fn.engine.ring; ops = l.fn.engine.ops; tasks = l.fn.self } })

@@ -13,7 +13,7 @@ pub returns-in-Err-RingFull-clause-polls : goal.returns-in-Err-RingFull-clause-p
 returns-in-Err-RingFull-clause-polls g c =
     let e = c.in-Err-RingFull in (
       [],
-      Offered-none g.R.UserEnds.used g.R.Rings.lists g.R.UserEnds.room g.R.UserEnds.waiting g.met.R.UserEnds.used_none _ _ e.ensures.unchanged.1,
+      Offered-none g.R.UserEnds.offers_large g.R.UserEnds.used g.R.Rings.lists g.R.UserEnds.room g.R.UserEnds.waiting g.met.R.UserEnds.used_none _ _ e.ensures.unchanged.1,
       held c.args.request _ _ _ _ c.its_number-number.ensures e.ensures.unchanged.0 (rw e.field-0-is at e.ensures.back) (rw e.field-0-is at e.ensures.key_in_use),
     )
 
@@ -21,7 +21,7 @@ pub returns-in-Err-KeyInUse-clause-polls : goal.returns-in-Err-KeyInUse-clause-p
 returns-in-Err-KeyInUse-clause-polls g c =
     let e = c.in-Err-KeyInUse in (
       [],
-      Offered-none g.R.UserEnds.used g.R.Rings.lists g.R.UserEnds.room g.R.UserEnds.waiting g.met.R.UserEnds.used_none _ _ e.ensures.unchanged.1,
+      Offered-none g.R.UserEnds.offers_large g.R.UserEnds.used g.R.Rings.lists g.R.UserEnds.room g.R.UserEnds.waiting g.met.R.UserEnds.used_none _ _ e.ensures.unchanged.1,
       refused c.args.request _ _ _ _ c.its_number-number.ensures e.ensures.unchanged.0 (rw e.field-0-is at e.ensures.back) _ (rw e.field-0-is at e.ensures.key_in_use) c.requires.over,
     )
 
@@ -29,6 +29,6 @@ pub returns-in-Err-NoMemory-clause-polls : goal.returns-in-Err-NoMemory-clause-p
 returns-in-Err-NoMemory-clause-polls g c =
     let e = c.in-Err-NoMemory in (
       [],
-      Offered-none g.R.UserEnds.used g.R.Rings.lists g.R.UserEnds.room g.R.UserEnds.waiting g.met.R.UserEnds.used_none _ _ e.ensures.unchanged.1,
+      Offered-none g.R.UserEnds.offers_large g.R.UserEnds.used g.R.Rings.lists g.R.UserEnds.room g.R.UserEnds.waiting g.met.R.UserEnds.used_none _ _ e.ensures.unchanged.1,
       lacking c.args.request _ _ _ _ c.its_number-number.ensures e.ensures.unchanged.0 (rw e.field-0-is at e.ensures.back) _ (rw e.field-0-is at e.ensures.key_in_use) c.requires.over,
     )

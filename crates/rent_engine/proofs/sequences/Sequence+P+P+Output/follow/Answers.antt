@@ -8,7 +8,7 @@ use Rattle.rent_engine.proofs.sequences.Sequence+P+P+Output.follow.Goals as goal
 pub returns-in-Gives-clause-followed : goal.returns-in-Gives-clause-followed
 returns-in-Gives-clause-followed g c = (
   [],
-  Offered-none g.R.UserEnds.used g.R.Rings.lists g.R.UserEnds.room g.R.UserEnds.waiting g.met.R.UserEnds.used_none _ _ refl,
+  Offered-none g.R.UserEnds.offers_large g.R.UserEnds.used g.R.Rings.lists g.R.UserEnds.room g.R.UserEnds.waiting g.met.R.UserEnds.used_none _ _ refl,
   record {
     plan = c.follow.new.self;
     step = Gives c.in-Gives.output;
