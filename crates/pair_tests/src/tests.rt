@@ -1,3 +1,5 @@
+mod ends;
 mod rings;
 mod rounds;
+mod small_side;
 mod threads;

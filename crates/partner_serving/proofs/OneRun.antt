@@ -1,5 +1,5 @@
 -- What two sides that met tell of their run.
-use Rattle.std.proofs.Common.{◌≡◌, ℕ, ◌+◌, ◌*◌, ◌<◌, ◌≤◌, suc, Bool, true, false, nat_lt, List, [], ◌∷◌, ◌++◌, length, map, None, All, refl, ap, sym, subst, ◌∙◌, append_assoc, append-nil, arith, length-append}
+use Rattle.std.proofs.Common.{◌≡◌, ℕ, ◌+◌, ◌*◌, ◌<◌, ◌≤◌, suc, Bool, true, false, nat_lt, List, [], ◌∷◌, ◌++◌, length, map, inr, Some, None, All, refl, ap, sym, subst, ◌∙◌, append_assoc, append-nil, arith, length-append}
 use Rattle.std.specs.Bool.{OnTrue}
 use Rattle.std.specs.List.{AllByRecursion}
 use Rattle.std.proofs.lemmas.List.{length-map}
@@ -22,9 +22,9 @@ use Rattle.uring_model.specs.Honest.{TakesWithinTurns, HasOwnLoan, NoPostIsStran
 use Rattle.uring_model.specs.Strange.{nothing_seen, all_seen, first_strange, ended_in, is_answered}
 use Rattle.uring_model.specs.Ends.{IdleWhereWhole, AnsweredAtEnd, WholeWhereAnswered}
 use Rattle.ring_traits.specs.Lists.{IsKept}
-use Rattle.partner_serving.specs.Serving.{EachWorks}
+use Rattle.partner_serving.specs.Serving.{EachWorks, HasAnswers}
 use Rattle.partner_serving.specs.TwoSides.{AreEntriesOf, started_all, AllAnswered, TwoSidesAreOneRun}
-use Rattle.partner_serving.proofs.Servings.{working_turns}
+use Rattle.partner_serving.proofs.Servings.{front_of, back_of, working_turns}
 use Rattle.partner_serving.proofs.Posts.{kept_log, posts_log-append, ended_posts, answered-append, strange_parts, unanswered_before, IsBelow, posts_expected, numbered_front, all_below}
 use Rattle.partner_serving.proofs.Rests.{rest_left}
 
@@ -41,10 +41,6 @@ pub record RunLaws {W : Type 0} (m : Machine W) (view : W → Files) (Plain : W 
 
 -- lists
 
-front_of : {A : Type 0} (P : A → Type 0) (xs ys : List A) → AllByRecursion P (xs ++ ys) → AllByRecursion P xs
-front_of P [] ys h = tt
-front_of P (x ∷ xs) ys h = (h.0, front_of P xs ys h.1)
-
 none_of : {A : Type 0} (xs : List A) → length xs ≡ 0 → xs ≡ []
 none_of [] h = refl
 none_of (x ∷ xs) h = absurd (omega arith)
@@ -55,10 +51,6 @@ append-none xs ys e = ap (λ l. xs ++ l) e ∙ append-nil xs
 both_none : {A : Type 0} (xs ys : List A) → xs ++ ys ≡ [] → (xs ≡ []) × (ys ≡ [])
 both_none [] ys e = (refl, e)
 both_none (x ∷ xs) ys e = cc
-
-back_of : {A : Type 0} (P : A → Type 0) (xs ys : List A) → AllByRecursion P (xs ++ ys) → AllByRecursion P ys
-back_of P [] ys h = h
-back_of P (x ∷ xs) ys h = back_of P xs ys h.1
 
 unlinked-length : (jobs : List Job) → length (last_unlinked jobs) ≡ length jobs
 unlinked-length [] = refl
@@ -117,21 +109,29 @@ nothing_unreaped lends jobs n reaped (c ∷ cs) fine below answered =
 
 -- the turns of an unbroken run
 
-few_turns : {W : Type 0} (m : Machine W) (view : W → Files) (Plain : W → Type 0) (unbroken : Bool) (a b : State W) (ms : List Move) (n : ℕ) → WorldLaws m view Plain → a.pending ≡ [] → schedule.Steps m true a ms b → length (took ms) ≤ n → OnTrue unbroken (EachWorks false ms) → OnTrue unbroken (turns ms ≤ 2 * n)
-few_turns m view Plain false a b ms n world none steps fits works = tt
-few_turns m view Plain true a b ms n world none steps fits works = omega (arith, working_turns m world.kept true a b ms steps works, ap length none, fits)
+few_turns : {W : Type 0} (m : Machine W) (view : W → Files) (Plain : W → Type 0) (unbroken : Bool) (a b : State W) (ms : List Move) (ts : List Taken) (n : ℕ) → WorldLaws m view Plain → a.pending ≡ [] → schedule.Steps m true a ms b → length (took ms) ≤ n
+    → HasAnswers m Plain (Some a) ts → OnTrue unbroken (HasAnswers m Plain (Some a) ts → EachWorks false ms) → OnTrue unbroken (turns ms ≤ 2 * n)
+few_turns m view Plain false a b ms ts n world none steps fits has works = tt
+few_turns m view Plain true a b ms ts n world none steps fits has works = omega (arith, working_turns m view Plain world true a b ms steps (works has), ap length none, fits)
 
 -- the law
+
+-- the world is plain, and nothing is pending
+plain_at : {W : Type 0} (Plain : W → Type 0) (a : State W) → IsPlainAndIdle Plain a → IsPlainState Plain IsJobEntry a
+plain_at Plain a rests = record { world = rests.plain; pending = subst (AllByRecursion (λ i. IsJobEntry i.taken)) (sym rests.pending) tt }
+
+-- the first of the entries ask what jobs ask
+job_entries : (lends : ℕ → Bool) (jobs : List Job) (entries ts ahead : List Taken) → AreEntriesOf lends jobs entries → ts ++ ahead ≡ entries → AllByRecursion IsJobEntry ts
+job_entries lends jobs entries ts ahead ask whole = front_of IsJobEntry ts ahead (subst (AllByRecursion IsJobEntry) (sym whole) (recursion_from_All IsJobEntry entries ask.operations))
 
 -- What the moves that take the first of these entries are to the files that are seen. The world stays plain.
 file_run : {W : Type 0} (m : Machine W) (view : W → Files) (Plain : W → Type 0) → RunLaws m view Plain → (lends : ℕ → Bool) (jobs : List Job) (entries : List Taken) (ms : List Move) (ahead : List Taken) (a b : State W)
     → AreEntriesOf lends jobs entries → took ms ++ ahead ≡ entries → IsPlainAndIdle Plain a → schedule.Steps m true a ms b → TakesWithinTurns 0 ms
     → FileRun lends jobs (view a.world) a.choices ms ahead (viewed view b) × Plain b.world
 file_run m view Plain laws lends jobs entries ms ahead a b ask whole rests steps within =
-    let six = front_of IsJobEntry (took ms) ahead (subst (AllByRecursion IsJobEntry) (sym whole) (recursion_from_All IsJobEntry entries ask.operations)) in
+    let six = job_entries lends jobs entries (took ms) ahead ask whole in
     let owns = front_of (HasOwnLoan lends) (took ms) ahead (subst (AllByRecursion (HasOwnLoan lends)) (sym whole) (recursion_from_All (HasOwnLoan lends) entries ask.loans)) in
-    let plain : IsPlainState Plain IsJobEntry a = record { world = rests.plain; pending = subst (AllByRecursion (λ i. IsJobEntry i.taken)) (sym rests.pending) tt } in
-    let seen = laws.world.steps_seen true a b ms plain six steps in
+    let seen = laws.world.steps_seen true a b ms (plain_at Plain a rests) six steps in
     let idle_a : IsIdle (viewed view a) = record { pending = rests.pending; tail = rests.tail } in
     let asks : map job_of (took ms ++ ahead) ≡ last_unlinked jobs = ap (map job_of) whole ∙ ask.asks in
     let numbers : Numbered 0 (took ms ++ ahead) = subst (Numbered 0) (sym whole) ask.numbers in
@@ -189,5 +189,5 @@ one_run m view Plain laws lends jobs kept entries offered ts cs reaped unbroken 
           let at_end = laws.answered jobs (view a.world) a.choices ms (viewed view b) ask.linked (ap (map job_of) d.taken_all ∙ ask.asks) (subst (Numbered 0) (sym d.taken_all) ask.numbers) run.steps d.idle.pending j lt in
           let same : ended_in (log_of (map Posted reaped)) ≡ ended_in (log_of s.moves) = ap (λ l. ended_in (log_of (map Posted l))) (sym d.reaped_all) ∙ ap ended_in (kept_log kept keeps (posted ms)) ∙ sym ended in
           ap (λ l. is_answered (quiets_of jobs) l j) same ∙ at_end;
-      few = few_turns m view Plain unbroken a b ms (length jobs) laws.world rests.pending s.states (omega (arith, count)) s.works;
+      few = few_turns m view Plain unbroken a b ms ts (length jobs) laws.world rests.pending s.states (omega (arith, count)) (inr (plain_at Plain a rests, subst (AllByRecursion IsJobEntry) s.takes (job_entries lends jobs entries (took ms) ahead ask whole))) s.works;
     }

@@ -1,33 +1,25 @@
--- One round of a memory partner: one look at its side of the rings, and at most one enter.
-use Rattle.std.specs.Prelude.{◌≡◌, ℕ, ◌<◌, ◌≤◌, ◌⊎◌, Bool, true, false, List, [], length, Option, Result, Ok, Err}
-use Rattle.uring_base.specs.declared.events.Taken.{Taken}
-use Rattle.uring_base.specs.declared.events.Completion.{Completion}
-use Rattle.uring_model.specs.Moves.{Move}
-use Rattle.uring_model.specs.Partner.{PartnerState, file_machine}
+-- One round of a partner: one look at its side of the rings, and at most one enter.
+use Rattle.std.specs.Prelude.{◌≡◌, ℕ, ◌<◌, ◌≤◌, ◌⊎◌, Bool, true, false, List, [], length, Option, Some, Result, Ok, Err}
+use Rattle.uring_model.specs.Moves.{Move, took}
+use Rattle.uring_model.specs.Schedule.{Machine, State}
 use Rattle.uring_model.specs.Progress.{turns}
 use Rattle.ring_traits.specs.Lists.{Lists}
 use Rattle.partner_traits.specs.declared.call.PartnerError.{PartnerError}
-use Rattle.partner_traits.specs.Calls.{IsTurnOver, later_plan}
-use Rattle.uring_partner.specs.declared.memory.MemoryPartner.{MemoryPartner}
-use Rattle.uring_partner.specs.Told.{told_log, told_state}
-use Rattle.partner_serving.specs.Serving.{Serving, EachWorks}
-
--- what a memory partner did from the first to the second
-abbrev pub MemoryServing : Bool → MemoryPartner → MemoryPartner → List Taken → List Completion → Type 0
-MemoryServing unbroken old new ts cs = Serving file_machine unbroken (told_log old) (told_log new) (told_state old) (told_state new) ts cs
+use Rattle.partner_traits.specs.Calls.{IsTurnOver, IsFullTurn, later_plan}
+use Rattle.partner_serving.specs.Serving.{EachWorks, HasAnswers}
 
 -- Whether an enter is due, where so many entries wait and so many completions fit: an entry waits, or one is pending and a
 -- completion fits. Where it isn't, the partner rests.
-abbrev pub TellsDue : Bool → ℕ → ℕ → PartnerState → Type 0
+abbrev pub TellsDue : {W : Type 0} → Bool → ℕ → ℕ → State W → Type 0
 TellsDue true ready space a = (0 < ready) ⊎ ((0 < length a.pending) × (0 < space))
 TellsDue false ready space a = (ready ≡ 0) × ((length a.pending ≡ 0) ⊎ (space ≡ 0))
 
--- The moves of one round, by its answer: one whole turn, over at least what was known to wait and to fit; or none. A refused
--- enter may leave a turn so far.
-abbrev pub IsRound : Result Bool PartnerError → PartnerState → ℕ → ℕ → Option Lists → List Move → Type 0
-IsRound (Ok true) a ready space lists ms = IsTurnOver file_machine a ready space lists ms
-IsRound (Ok false) a ready space lists ms = ms ≡ []
-IsRound (Err e) a ready space lists ms = turns ms ≤ 1
+-- The moves of one round, by its answer: one turn, and where the state is told a whole one, over at least what was known to wait
+-- and to fit; or none. A refused enter may leave a turn so far.
+abbrev pub IsRound : {W : Type 0} → Machine W → Result Bool PartnerError → Option (State W) → ℕ → ℕ → Option Lists → List Move → Type 0
+IsRound m (Ok true) state ready space lists ms = (turns ms ≡ 1) × IsFullTurn m state ready space lists ms
+IsRound m (Ok false) state ready space lists ms = ms ≡ []
+IsRound m (Err e) state ready space lists ms = turns ms ≤ 1
 
 -- the plan of failures after a round: an enter counts it down
 abbrev pub plan_after : Result Bool PartnerError → List ℕ → List ℕ
@@ -37,6 +29,8 @@ plan_after (Err e) plan = later_plan plan
 
 -- laws
 
--- a whole turn that was due works
-abbrev pub DueTurnsWork : Type 0
-DueTurnsWork = (a : PartnerState) (ready space : ℕ) (lists : Option Lists) (ms : List Move) → TellsDue true ready space a → IsTurnOver file_machine a ready space lists ms → EachWorks false ms
+-- a whole turn that was due works, where the machine has its answers
+abbrev pub DueTurnsWork : {W : Type 0} → Machine W → (W → Type 0) → Type 0
+DueTurnsWork {W = W} m Plain =
+    (a : State W) (ready space : ℕ) (lists : Option Lists) (ms : List Move)
+    → HasAnswers m Plain (Some a) (took ms) → TellsDue true ready space a → IsTurnOver m a ready space lists ms → EachWorks false ms

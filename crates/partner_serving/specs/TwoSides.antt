@@ -69,5 +69,5 @@ abbrev pub TwoSidesAreOneRun : {W : Type 0} → Machine W → (W → Files) → 
 TwoSidesAreOneRun {W = W} m view Plain =
     (lends : ℕ → Bool) (jobs : List Job) (kept : Completion → Completion) (entries offered ts : List Taken) (cs reaped : List Completion) (unbroken : Bool) (log log' : Option (List LogEvent)) (a b : State W)
     → ((c : Completion) → IsKept c (kept c)) → AreEntriesOf lends jobs entries → TwoSides kept entries offered ts cs reaped
-    → IsPlainAndIdle Plain a → (s : Serving m unbroken log log' (Some a) (Some b) ts cs)
+    → IsPlainAndIdle Plain a → (s : Serving m Plain unbroken log log' (Some a) (Some b) ts cs)
     → OneRun view Plain lends jobs kept entries offered reaped unbroken a b s.moves

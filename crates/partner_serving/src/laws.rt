@@ -13,28 +13,29 @@ use uring_model::laws::{
 
 /// Stretches in a row are one, and none at all is an unbroken one.
 pub fn servings_join<P: Partner>()
-    ensures join { ServingsJoin P.machine }
-    ensures none { NoRoundServes P.machine }
+    ensures join { ServingsJoin P.machine P.Plain }
+    ensures none { NoRoundServes P.machine P.Plain }
 {
     moves_join();
     world_laws::<P>();
 }
 
-/// An unbroken stretch has at most two turns for each entry that it takes, where nothing was
-/// pending before it.
+/// An unbroken stretch has at most two turns for each entry that it takes, and one for each that was
+/// pending before it, where the machine has its answers.
 pub fn unbroken_turns_are_few<P: Partner>()
-    ensures moves { WorkingTurnsAreFew P.machine }
-    ensures few { UnbrokenTurnsAreFew P.machine }
+    ensures moves { WorkingTurnsAreFew P.machine P.Plain }
+    ensures few { UnbrokenTurnsAreFew P.machine P.Plain }
 {
     world_laws::<P>();
 }
 
-/// A whole turn of a partner over its files takes or settles an entry, where one was known to wait,
-/// or one was pending and there was room.
-pub fn due_turns_work()
-    ensures { DueTurnsWork }
+/// A whole turn takes or settles an entry, where the machine has its answers, and one was known to
+/// wait, or one was pending and there was room.
+pub fn due_turns_work<P: Partner>()
+    ensures { DueTurnsWork P.machine P.Plain }
 {
     turns_are_moves();
+    world_laws::<P>();
 }
 
 /// What both sides of a run tell once they met is one run over one list of moves, whatever their

@@ -165,10 +165,10 @@ lends_none j last job v = λ q. no_loan j job.kind (valid_silent last job v q)
 asks_one : (j : ℕ) (last : Bool) (job : Job) (link : Link) → is_valid_job last (model_job job) ≡ true → IsInRange job.kind → job_of (small (offer_of j (record job { link = link })).entry (offer_of j job).loan) ≡ record (model_job job) { link = link }
 asks_one j last job link v r = asks_marked j job.kind job.drain job.quiet link (lends_none j last job v) (valid_fits last job v) r
 
-pub asks_all : (n : ℕ) (jobs : List Job) → AllValid jobs → AllInRange jobs → map job_of (all_taken (offers_from n jobs)) ≡ last_unlinked (model_jobs jobs)
-asks_all n [] v r = refl
-asks_all n (job ∷ []) v r = ap (λ x. x ∷ []) (asks_one n (true) job Free v.0 r.0)
-asks_all n (job ∷ next ∷ jobs) v r = λ i. asks_one n (nat_eq (length (next ∷ jobs)) 0) job job.link v.0 r.0 i ∷ asks_all (n + 1) (next ∷ jobs) v.1 r.1 i
+pub asks_all : (n : ℕ) (jobs : List Job) → AllValid jobs → AllInRange jobs → (large : Bool) → map job_of (all_taken (offers_from n jobs) large) ≡ last_unlinked (model_jobs jobs)
+asks_all n [] v r large = refl
+asks_all n (job ∷ []) v r large = ap (λ x. x ∷ []) (asks_one n (true) job Free v.0 r.0)
+asks_all n (job ∷ next ∷ jobs) v r large = λ i. asks_one n (nat_eq (length (next ∷ jobs)) 0) job job.link v.0 r.0 i ∷ asks_all (n + 1) (next ∷ jobs) v.1 r.1 large i
 
 six_kind : (kind : JobKind) → is_job_operation (model_op kind) ≡ true
 six_kind Nop = refl
@@ -178,15 +178,15 @@ six_kind (Fsync file) = refl
 six_kind (Ftruncate file len) = refl
 six_kind (Cancel target) = refl
 
-pub six_all : (n : ℕ) (jobs : List Job) → AllValid jobs → AllInRange jobs → AllByRecursion IsJobEntry (all_taken (offers_from n jobs))
-six_all n [] v r = tt
-six_all n (job ∷ []) v r = (ap (λ x. is_job_operation x.op) (asks_one n (true) job Free v.0 r.0) ∙ six_kind job.kind, tt)
-six_all n (job ∷ next ∷ jobs) v r = (ap (λ x. is_job_operation x.op) (asks_one n (nat_eq (length (next ∷ jobs)) 0) job job.link v.0 r.0) ∙ six_kind job.kind, six_all (n + 1) (next ∷ jobs) v.1 r.1)
+pub six_all : (n : ℕ) (jobs : List Job) → AllValid jobs → AllInRange jobs → (large : Bool) → AllByRecursion IsJobEntry (all_taken (offers_from n jobs) large)
+six_all n [] v r large = tt
+six_all n (job ∷ []) v r large = (ap (λ x. is_job_operation x.op) (asks_one n (true) job Free v.0 r.0) ∙ six_kind job.kind, tt)
+six_all n (job ∷ next ∷ jobs) v r large = (ap (λ x. is_job_operation x.op) (asks_one n (nat_eq (length (next ∷ jobs)) 0) job job.link v.0 r.0) ∙ six_kind job.kind, six_all (n + 1) (next ∷ jobs) v.1 r.1 large)
 
-pub numbered_all : (n : ℕ) (jobs : List Job) → Numbered n (all_taken (offers_from n jobs))
-numbered_all n [] = tt
-numbered_all n (job ∷ []) = (refl, tt)
-numbered_all n (job ∷ next ∷ jobs) = (refl, numbered_all (n + 1) (next ∷ jobs))
+pub numbered_all : (n : ℕ) (jobs : List Job) (large : Bool) → Numbered n (all_taken (offers_from n jobs) large)
+numbered_all n [] large = tt
+numbered_all n (job ∷ []) large = (refl, tt)
+numbered_all n (job ∷ next ∷ jobs) large = (refl, numbered_all (n + 1) (next ∷ jobs) large)
 
 -- the loans
 
@@ -222,12 +222,12 @@ lends_given n (Fsync file) = refl
 lends_given n (Ftruncate file len) = refl
 lends_given n (Cancel job) = refl
 
-pub own_all : (replies : ℕ → Reply) (lent : ℕ → Bool) → ((j : ℕ) → lent j ≡ lends (replies j)) → (n : ℕ) (jobs : List Job) → Replies replies n jobs → AllByRecursion (HasOwnLoan lent) (all_taken (offers_from n jobs))
-own_all replies lent e n [] f = tt
-own_all replies lent e n (job ∷ []) f = (record { lent = e n ∙ ap lends (replies_here replies n _ (f 0)) ∙ lends_given n job.kind; number = own_number n job.kind }, tt)
-own_all replies lent e n (job ∷ next ∷ jobs) f = (
+pub own_all : (replies : ℕ → Reply) (lent : ℕ → Bool) → ((j : ℕ) → lent j ≡ lends (replies j)) → (n : ℕ) (jobs : List Job) → Replies replies n jobs → (large : Bool) → AllByRecursion (HasOwnLoan lent) (all_taken (offers_from n jobs) large)
+own_all replies lent e n [] f large = tt
+own_all replies lent e n (job ∷ []) f large = (record { lent = e n ∙ ap lends (replies_here replies n _ (f 0)) ∙ lends_given n job.kind; number = own_number n job.kind }, tt)
+own_all replies lent e n (job ∷ next ∷ jobs) f large = (
   record { lent = e n ∙ ap lends (replies_here replies n _ (f 0)) ∙ lends_given n job.kind; number = own_number n job.kind },
-  own_all replies lent e (n + 1) (next ∷ jobs) (replies_next replies n job next jobs f),
+  own_all replies lent e (n + 1) (next ∷ jobs) (replies_next replies n job next jobs f) large,
 )
 
 -- An entry lends what its job's outcome gives back, from the first byte on, and asks for a sync where the outcome tells no
@@ -265,10 +265,10 @@ asks_kind n (Cancel job) = refl
 asks_entry : (n : ℕ) (kind : JobKind) (reply : Reply) (op : machine.ModelOp) → reply ≡ reply_for kind → op ≡ model_op kind → (is_lent reply (job_loan n kind) && is_asked reply op) ≡ true
 asks_entry n kind reply op e f = (λ i. is_lent (e i) (job_loan n kind) && is_asked (e i) (f i)) ∙ asks_kind n kind
 
-pub asks_list : (replies : ℕ → Reply) (n : ℕ) (jobs : List Job) → Replies replies n jobs → AllValid jobs → AllInRange jobs → AllByRecursion (λ t. asks replies t ≡ true) (all_taken (offers_from n jobs))
-asks_list replies n [] f v r = tt
-asks_list replies n (job ∷ []) f v r = (asks_entry n job.kind _ _ (replies_here replies n _ (f 0)) (ap (λ j. j.op) (asks_one n true job Free v.0 r.0)), tt)
-asks_list replies n (job ∷ next ∷ jobs) f v r = (
+pub asks_list : (replies : ℕ → Reply) (n : ℕ) (jobs : List Job) → Replies replies n jobs → AllValid jobs → AllInRange jobs → (large : Bool) → AllByRecursion (λ t. asks replies t ≡ true) (all_taken (offers_from n jobs) large)
+asks_list replies n [] f v r large = tt
+asks_list replies n (job ∷ []) f v r large = (asks_entry n job.kind _ _ (replies_here replies n _ (f 0)) (ap (λ j. j.op) (asks_one n true job Free v.0 r.0)), tt)
+asks_list replies n (job ∷ next ∷ jobs) f v r large = (
   asks_entry n job.kind _ _ (replies_here replies n _ (f 0)) (ap (λ j. j.op) (asks_one n (nat_eq (length (next ∷ jobs)) 0) job job.link v.0 r.0)),
-  asks_list replies (n + 1) (next ∷ jobs) (replies_next replies n job next jobs f) v.1 r.1,
+  asks_list replies (n + 1) (next ∷ jobs) (replies_next replies n job next jobs f) v.1 r.1 large,
 )

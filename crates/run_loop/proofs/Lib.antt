@@ -15,8 +15,13 @@ pub mod UserLemmas
 pub mod Quiets
 pub mod Prompt
 pub mod Running
+pub mod TurnLemmas
 pub mod Journal
 pub mod Results
 pub mod Says
+pub mod SharedSays
+pub mod Meeting
+pub mod BothLemmas
+pub mod SharedEnds
 pub mod Opened
 pub mod PollLemmas

@@ -426,15 +426,15 @@ done_jobs offers cs ended t loud z k h =
 
 -- a ring that drops the further numbers changes none of this
 
-big_apart : (slot : Option Slot) (c : Completion) (big : List ℕ) → is_strange_at slot (record c { big = big }) ≡ is_strange_at slot c
-big_apart None c big = refl
-big_apart (Some (Done o)) c big = refl
-big_apart (Some (Open reply quiet)) c big = refl
+big_apart : (slot : Option Slot) (c : Completion) (big : List ℕ) (large : Bool) → is_strange_at slot (record c { big = big; large = large }) ≡ is_strange_at slot c
+big_apart None c big large = refl
+big_apart (Some (Done o)) c big large = refl
+big_apart (Some (Open reply quiet)) c big large = refl
 
 kept_stranger : (kept : Completion → Completion) → ((c : Completion) → IsKept c (kept c)) → (started : ℕ) (slots : List Slot) (c : Completion) → is_unexpected started slots (kept c) ≡ is_unexpected started slots c
 kept_stranger kept k started slots c =
     ap (is_unexpected started slots) (k c)
-    ∙ ap (λ b. not (nat_lt c.user_data started) || b) (big_apart (slice_get slots c.user_data) c (kept c).big)
+    ∙ ap (λ b. not (nat_lt c.user_data started) || b) (big_apart (slice_get slots c.user_data) c (kept c).big (kept c).large)
 
 pub stranger_kept : (kept : Completion → Completion) → ((c : Completion) → IsKept c (kept c)) → (started : ℕ) (slots : List Slot) (cs : List Completion) → stranger_among started slots (map kept cs) ≡ stranger_among started slots cs
 stranger_kept kept k started slots [] = refl

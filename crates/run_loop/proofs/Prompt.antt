@@ -104,13 +104,13 @@ stands mach view Plain laws a b run rests steps six =
     record { steps = laws.idle_moves (viewed view a) (viewed view b) run resting s.0; plain = s.1 }
 
 -- while a job isn't answered, something is pending once all entries were taken
-pub waits_still : {W : Type 0} (mach : Machine W) (view : W → Files) (Plain : W → Type 0) (laws : ModelLaws mach view Plain) (jobs : List Job) (a b : State W) (run : List Move) → Stands mach view Plain a b run → AllValid jobs → AllInRange jobs → took run ≡ entries_from 0 jobs
+pub waits_still : {W : Type 0} (mach : Machine W) (view : W → Files) (Plain : W → Type 0) (laws : ModelLaws mach view Plain) (jobs : List Job) (a b : State W) (run : List Move) (large : Bool) → Stands mach view Plain a b run → AllValid jobs → AllInRange jobs → took run ≡ entries_from 0 jobs large
     → (j : ℕ) → j < length jobs → is_answered (quiets_at jobs) (ended_in (log_of run)) j ≡ false → 0 < length b.pending
-waits_still mach view Plain laws jobs a b run s valid range all j lt left =
+waits_still mach view Plain laws jobs a b run large s valid range all j lt left =
     some_if b.pending (λ none.
-    let asks : map job_of (took run) ≡ last_unlinked (model_jobs jobs) = ap (map job_of) all ∙ asks_all 0 jobs valid range in
+    let asks : map job_of (took run) ≡ last_unlinked (model_jobs jobs) = ap (map job_of) all ∙ asks_all 0 jobs valid range large in
     let inside : j < length (model_jobs jobs) = omega (arith, lt, length-map jobs model_job) in
-    let done = laws.answered (model_jobs jobs) (view a.world) a.choices run (viewed view b) (valid_linked jobs valid) asks (subst (Numbered 0) (sym all) (numbered_all 0 jobs)) s.steps none j inside in
+    let done = laws.answered (model_jobs jobs) (view a.world) a.choices run (viewed view b) (valid_linked jobs valid) asks (subst (Numbered 0) (sym all) (numbered_all 0 jobs large)) s.steps none j inside in
     let bad : true ≡ false = sym done ∙ ap (λ qs. is_answered qs (ended_in (log_of run)) j) (sym (quiets_jobs 0 jobs)) ∙ left in cc)
   where
     some_if : (is : List Pending) → (is ≡ [] → ⊥) → 0 < length is
@@ -126,19 +126,19 @@ none_of : {A : Type 0} (xs : List A) → length xs ≡ 0 → xs ≡ []
 none_of [] h = refl
 none_of (x ∷ xs) h = absurd (omega arith)
 
-pub turn_pays : {W : Type 0} (mach : Machine W) (view : W → Files) (Plain : W → Type 0) (laws : ModelLaws mach view Plain) (jobs : List Job) (a b : State W) (run : List Move) (ts : List Taken) (room : ℕ) → Stands mach view Plain a b run → AllValid jobs → AllInRange jobs → AllByRecursion IsJobEntry ts
-    → (length ts ≡ 0 → (took run ≡ entries_from 0 jobs) × ((j : ℕ) × (j < length jobs) × (is_answered (quiets_at jobs) (ended_in (log_of run)) j ≡ false))) → 0 < room → Pays mach b ts room
-turn_pays mach view Plain laws jobs a b run ts room s valid range six f r =
+pub turn_pays : {W : Type 0} (mach : Machine W) (view : W → Files) (Plain : W → Type 0) (laws : ModelLaws mach view Plain) (jobs : List Job) (a b : State W) (run : List Move) (large : Bool) (ts : List Taken) (room : ℕ) → Stands mach view Plain a b run → AllValid jobs → AllInRange jobs → AllByRecursion IsJobEntry ts
+    → (length ts ≡ 0 → (took run ≡ entries_from 0 jobs large) × ((j : ℕ) × (j < length jobs) × (is_answered (quiets_at jobs) (ended_in (log_of run)) j ≡ false))) → 0 < room → Pays mach b ts room
+turn_pays mach view Plain laws jobs a b run large ts room s valid range six f r =
     let seen : (turn mach ts room b).ends ≡ (turn file_machine ts room (viewed view b)).ends = (laws.world.turns_seen room ts b s.plain six).0 in
     let taken = take_count (viewed view b) ts in
-    let waits : length ts ≡ 0 → 0 < length b.pending = λ z. let g = f z in waits_still mach view Plain laws jobs a b run s valid range g.0 g.1.0 g.1.1 g.1.2 in
+    let waits : length ts ≡ 0 → 0 < length b.pending = λ z. let g = f z in waits_still mach view Plain laws jobs a b run large s valid range g.0 g.1.0 g.1.1 g.1.2 in
     let some : 0 < length (take_all (viewed view b) ts).pending = omega (arith, taken, some_of (length ts) (length b.pending) waits) in
     record {
       settles = subst (λ l. 0 < length l) (sym seen) (laws.settles room ts (viewed view b) some r);
       goes = λ z.
           let none : ts ≡ [] = none_of ts z in
           let g = f z in
-          let asks : map job_of (took run) ≡ last_unlinked (model_jobs jobs) = ap (map job_of) g.0 ∙ asks_all 0 jobs valid range in
+          let asks : map job_of (took run) ≡ last_unlinked (model_jobs jobs) = ap (map job_of) g.0 ∙ asks_all 0 jobs valid range large in
           subst (λ l. 0 < length (posts_of l)) (ap (λ l. (turn file_machine l room (viewed view b)).ends) (sym none) ∙ sym seen)
           (laws.last_posts (model_jobs jobs) (view a.world) a.choices run (viewed view b) room (valid_linked jobs valid) asks s.steps (waits z) r);
     }

@@ -20,7 +20,7 @@ use Rattle.uring_model.specs.Asks.{IsJobEntry}
 use Rattle.uring_model.specs.Honest.{TakesWithinTurns}
 use Rattle.uring_model.specs.Strange.{Seen, nothing_seen, all_seen, is_answered, ended_in, first_strange}
 use Rattle.uring_model.specs.declared.jobs.Job.{Job}
-use Rattle.ring_traits.specs.Lists.{Lists, IsKept, HasRoom, all_published, free_of, room_of, small}
+use Rattle.ring_traits.specs.Lists.{Lists, IsKept, HasRoom, all_published, free_of, room_of, as_offered}
 use Rattle.run_loop.proofs.Prompt.{six_front, six_back, took_turn, served_some, AllFinal, turn_final, final_any, stands, turn_pays, same_turn}
 use Rattle.run_loop.proofs.Asks.{six_all}
 use Rattle.run_loop.proofs.EntryLemmas.{offers_count}
@@ -168,16 +168,16 @@ pub told_same : {A : Type 0} (o : Option A) (a b : A) → o ≡ Some a → o ≡
 told_same o a b p q = some_is a b (sym p ∙ q)
 
 -- what was started, by what is left to offer
-pub started_more : (ts : List Taken) (todo todo' : List Offer) (started started' : ℕ) → all_taken todo ≡ ts ++ all_taken todo' → started' + length todo' ≡ started + length todo → started + length ts ≡ started'
-started_more ts todo todo' started started' split count =
-    let offered : length todo ≡ length ts + length todo' = sym (entries-length todo) ∙ ap length split ∙ length-append ts (all_taken todo') ∙ ap (λ n. length ts + n) (entries-length todo') in
+pub started_more : (ts : List Taken) (todo todo' : List Offer) (large : Bool) (started started' : ℕ) → all_taken todo large ≡ ts ++ all_taken todo' large → started' + length todo' ≡ started + length todo → started + length ts ≡ started'
+started_more ts todo todo' large started started' split count =
+    let offered : length todo ≡ length ts + length todo' = sym (entries-length todo large) ∙ ap length split ∙ length-append ts (all_taken todo' large) ∙ ap (λ n. length ts + n) (entries-length todo' large) in
     omega (arith, count, offered)
 
 -- how many entries were taken, are published and are still to offer
-pub counts : (offers : List Offer) (ms : List Move) (published todo : List Taken) → (took ms ++ published) ++ todo ≡ all_taken offers → length (took ms) + (length published + length todo) ≡ length offers
-counts offers ms published todo e =
+pub counts : (offers : List Offer) (large : Bool) (ms : List Move) (published todo : List Taken) → (took ms ++ published) ++ todo ≡ all_taken offers large → length (took ms) + (length published + length todo) ≡ length offers
+counts offers large ms published todo e =
     ap (λ x. length (took ms) + x) (sym (length-append published todo))
-    ∙ sym (length-append (took ms) (published ++ todo)) ∙ ap length (sym (append_assoc (took ms) published todo) ∙ e) ∙ entries-length offers
+    ∙ sym (length-append (took ms) (published ++ todo)) ∙ ap length (sym (append_assoc (took ms) published todo) ∙ e) ∙ entries-length offers large
 
 -- how many jobs are started, by what was taken and is published
 begun_by : (started : ℕ) (ms : List Move) (published : List Taken) → started ≡ length (took ms ++ published) → started ≡ length (took ms) + length published
@@ -227,7 +227,7 @@ pub record Next {W : Type 0} (mach : schedule.Machine W) (view : W → Files) (P
   pub unfinished : 0 < count_open slots
   pub waits : idled + 1 ≤ idle
 
-same_lists : {W : Type 0} (mach : schedule.Machine W) (view : W → Files) (Plain : W → Type 0) {P R : Type 0} (log : P → Option (List LogEvent)) (state : P → Option (schedule.State W)) (lists : R → Option Lists) (kept : Completion → Completion) (first now new : P) (from to : R) (room : ℕ) (todo todo' : List Taken) (started started' : ℕ) (slots slots' : List Slot) (offers : List Offer) (capacity idle idled : ℕ) (answer : Result Bool RunFault) (x : Next mach view Plain log state lists kept first now new from to room todo todo' started started' slots slots' offers capacity idle idled answer) → x.round.before ≡ x.run.l
+pub same_lists : {W : Type 0} (mach : schedule.Machine W) (view : W → Files) (Plain : W → Type 0) {P R : Type 0} (log : P → Option (List LogEvent)) (state : P → Option (schedule.State W)) (lists : R → Option Lists) (kept : Completion → Completion) (first now new : P) (from to : R) (room : ℕ) (todo todo' : List Taken) (started started' : ℕ) (slots slots' : List Slot) (offers : List Offer) (capacity idle idled : ℕ) (answer : Result Bool RunFault) (x : Next mach view Plain log state lists kept first now new from to room todo todo' started started' slots slots' offers capacity idle idled answer) → x.round.before ≡ x.run.l
 same_lists mach view Plain log state lists kept first now new from to room todo todo' started started' slots slots' offers capacity idle idled answer x =
     told_same (lists from) x.round.before x.run.l x.round.told_before x.run.told
 
@@ -245,19 +245,19 @@ next_offered mach view Plain log state lists kept first now new from to room tod
     ∙ sym (append_assoc (took x.run.ms) (took x.round.ms) x.round.after.published)
     ∙ ap (λ l. l ++ x.round.after.published) (sym (x.laws.join.takes x.run.ms x.round.ms))
 
-next_entries : {W : Type 0} (mach : schedule.Machine W) (view : W → Files) (Plain : W → Type 0) {P R : Type 0} (log : P → Option (List LogEvent)) (state : P → Option (schedule.State W)) (lists : R → Option Lists) (kept : Completion → Completion) (first now new : P) (from to : R) (room : ℕ) (todo todo' : List Taken) (started started' : ℕ) (slots slots' : List Slot) (offers : List Offer) (capacity idle idled : ℕ) (answer : Result Bool RunFault) (x : Next mach view Plain log state lists kept first now new from to room todo todo' started started' slots slots' offers capacity idle idled answer) → (took (x.run.ms ++ x.round.ms) ++ x.round.after.published) ++ todo' ≡ all_taken offers
+next_entries : {W : Type 0} (mach : schedule.Machine W) (view : W → Files) (Plain : W → Type 0) {P R : Type 0} (log : P → Option (List LogEvent)) (state : P → Option (schedule.State W)) (lists : R → Option Lists) (kept : Completion → Completion) (first now new : P) (from to : R) (room : ℕ) (todo todo' : List Taken) (started started' : ℕ) (slots slots' : List Slot) (offers : List Offer) (capacity idle idled : ℕ) (answer : Result Bool RunFault) (x : Next mach view Plain log state lists kept first now new from to room todo todo' started started' slots slots' offers capacity idle idled answer) → (took (x.run.ms ++ x.round.ms) ++ x.round.after.published) ++ todo' ≡ all_taken offers x.run.user.large
 next_entries mach view Plain log state lists kept first now new from to room todo todo' started started' slots slots' offers capacity idle idled answer x =
     ap (λ l. l ++ todo') (sym (next_offered mach view Plain log state lists kept first now new from to room todo todo' started started' slots slots' offers capacity idle idled answer x))
-    ∙ user_entries offers (took x.run.ms ++ x.run.l.published) x.round.ts todo todo' x.run.user.entries x.round.offered
+    ∙ user_entries (all_taken offers x.run.user.large) (took x.run.ms ++ x.run.l.published) x.round.ts todo todo' x.run.user.entries x.round.offered
 
 next_called : {W : Type 0} (mach : schedule.Machine W) (view : W → Files) (Plain : W → Type 0) {P R : Type 0} (log : P → Option (List LogEvent)) (state : P → Option (schedule.State W)) (lists : R → Option Lists) (kept : Completion → Completion) (first now new : P) (from to : R) (room : ℕ) (todo todo' : List Taken) (started started' : ℕ) (slots slots' : List Slot) (offers : List Offer) (capacity idle idled : ℕ) (answer : Result Bool RunFault) (x : Next mach view Plain log state lists kept first now new from to room todo todo' started started' slots slots' offers capacity idle idled answer) → (x.round.ms ≡ []) ⊎ Called (length offers) (length (took x.run.ms)) started' x.run.l.capacity x.round.ms
 next_called mach view Plain log state lists kept first now new from to room todo todo' started started' slots slots' offers capacity idle idled answer x =
-    let here : length (took x.run.ms) + length (x.run.l.published ++ todo) ≡ length offers = ap (λ y. length (took x.run.ms) + y) (length-append x.run.l.published todo) ∙ counts offers x.run.ms x.run.l.published todo x.run.user.entries in
+    let here : length (took x.run.ms) + length (x.run.l.published ++ todo) ≡ length offers = ap (λ y. length (took x.run.ms) + y) (length-append x.run.l.published todo) ∙ counts offers x.run.user.large x.run.ms x.run.l.published todo x.run.user.entries in
     called_or x.round.to_submit x.round.entered x.round.before x.run.l x.round.at x.round.ts todo todo' x.round.ms (length offers) (length (took x.run.ms)) started started' (same_lists mach view Plain log state lists kept first now new from to room todo todo' started started' slots slots' offers capacity idle idled answer x) x.round.published x.round.fits x.run.calm.pushed x.round.offered x.round.full here (begun_by started x.run.ms x.run.l.published x.run.user.started_is) x.count x.round.enough x.round.call
 
 next_entered : {W : Type 0} (mach : schedule.Machine W) (view : W → Files) (Plain : W → Type 0) {P R : Type 0} (log : P → Option (List LogEvent)) (state : P → Option (schedule.State W)) (lists : R → Option Lists) (kept : Completion → Completion) (first now new : P) (from to : R) (room : ℕ) (todo todo' : List Taken) (started started' : ℕ) (slots slots' : List Slot) (offers : List Offer) (capacity idle idled : ℕ) (answer : Result Bool RunFault) (x : Next mach view Plain log state lists kept first now new from to room todo todo' started started' slots slots' offers capacity idle idled answer) → x.round.entered ≡ true → Called (length offers) (length (took x.run.ms)) started' x.run.l.capacity x.round.ms
 next_entered mach view Plain log state lists kept first now new from to room todo todo' started started' slots slots' offers capacity idle idled answer x e =
-    let here : length (took x.run.ms) + length (x.run.l.published ++ todo) ≡ length offers = ap (λ y. length (took x.run.ms) + y) (length-append x.run.l.published todo) ∙ counts offers x.run.ms x.run.l.published todo x.run.user.entries in
+    let here : length (took x.run.ms) + length (x.run.l.published ++ todo) ≡ length offers = ap (λ y. length (took x.run.ms) + y) (length-append x.run.l.published todo) ∙ counts offers x.run.user.large x.run.ms x.run.l.published todo x.run.user.entries in
     called_turn x.round.to_submit x.round.before x.run.l x.round.at x.round.ts todo todo' x.round.ms (length offers) (length (took x.run.ms)) started started' (same_lists mach view Plain log state lists kept first now new from to room todo todo' started started' slots slots' offers capacity idle idled answer x) x.round.published x.round.fits x.run.calm.pushed x.round.offered x.round.full here (begun_by started x.run.ms x.run.l.published x.run.user.started_is) x.count x.round.enough (subst (λ b. IsCall b x.round.to_submit (Some x.round.at) x.round.ms) e x.round.call)
 
 next_busy : {W : Type 0} (mach : schedule.Machine W) (view : W → Files) (Plain : W → Type 0) {P R : Type 0} (log : P → Option (List LogEvent)) (state : P → Option (schedule.State W)) (lists : R → Option Lists) (kept : Completion → Completion) (first now new : P) (from to : R) (room : ℕ) (todo todo' : List Taken) (started started' : ℕ) (slots slots' : List Slot) (offers : List Offer) (capacity idle idled : ℕ) (answer : Result Bool RunFault) (x : Next mach view Plain log state lists kept first now new from to room todo todo' started started' slots slots' offers capacity idle idled answer) → IsBusy capacity (length offers) 0 (journal_of (log_of (x.run.ms ++ x.round.ms)))
@@ -274,7 +274,7 @@ next_within mach view Plain log state lists kept first now new from to room todo
 
 next_inside : {W : Type 0} (mach : schedule.Machine W) (view : W → Files) (Plain : W → Type 0) {P R : Type 0} (log : P → Option (List LogEvent)) (state : P → Option (schedule.State W)) (lists : R → Option Lists) (kept : Completion → Completion) (first now new : P) (from to : R) (room : ℕ) (todo todo' : List Taken) (started started' : ℕ) (slots slots' : List Slot) (offers : List Offer) (capacity idle idled : ℕ) (answer : Result Bool RunFault) (x : Next mach view Plain log state lists kept first now new from to room todo todo' started started' slots slots' offers capacity idle idled answer) → started' ≤ length offers
 next_inside mach view Plain log state lists kept first now new from to room todo todo' started started' slots slots' offers capacity idle idled answer x =
-    omega (arith, counts offers x.run.ms x.run.l.published todo x.run.user.entries, (begun_by started x.run.ms x.run.l.published x.run.user.started_is), x.count)
+    omega (arith, counts offers x.run.user.large x.run.ms x.run.l.published todo x.run.user.entries, (begun_by started x.run.ms x.run.l.published x.run.user.started_is), x.count)
 
 next_strange : {W : Type 0} (mach : schedule.Machine W) (view : W → Files) (Plain : W → Type 0) {P R : Type 0} (log : P → Option (List LogEvent)) (state : P → Option (schedule.State W)) (lists : R → Option Lists) (kept : Completion → Completion) (first now new : P) (from to : R) (room : ℕ) (todo todo' : List Taken) (started started' : ℕ) (slots slots' : List Slot) (offers : List Offer) (capacity idle idled : ℕ) (answer : Result Bool RunFault) (x : Next mach view Plain log state lists kept first now new from to room todo todo' started started' slots slots' offers capacity idle idled answer) → x.round.entered ≡ true → first_strange (lends_in offers) (quiets_in offers) nothing_seen (log_of (x.run.ms ++ x.round.ms)) ≡ stranger_among started' slots (map kept (posted x.round.ms))
 next_strange mach view Plain log state lists kept first now new from to room todo todo' started started' slots slots' offers capacity idle idled answer x e =
@@ -289,6 +289,7 @@ next_ran mach view Plain log state lists kept first now new from to room todo to
     record {
       ran = record {
         moves = x.run.ms ++ x.round.ms;
+        large = x.run.user.large;
         ahead = x.round.after.published ++ todo';
         logs = x.laws.join.logs (log first) (log now) (log new) x.run.ms x.round.ms x.run.logs x.round.logs;
         states = x.laws.world.join (state first) (state now) (state new) x.run.ms x.round.ms x.run.states x.round.states;
@@ -332,7 +333,7 @@ next_left mach view Plain log state lists kept first now new from to room todo t
     let landed : count_open slots' + cond (any_final (posted x.round.ms)) 1 0 ≤ count_open slots =
     subst (λ y. count_open y + cond (any_final (posted x.round.ms)) 1 0 ≤ count_open slots) (sym (next_slots mach view Plain log state lists kept first now new from to room todo todo' started started' slots slots' offers capacity idle idled went x)) (all_landed started' slots (posted x.round.ms) due) in
     let more : length (took (x.run.ms ++ x.round.ms)) ≡ length (took x.run.ms) + length (took x.round.ms) = ap length (x.laws.join.takes x.run.ms x.round.ms) ∙ length-append (took x.run.ms) (took x.round.ms) in
-    let all = counts offers (x.run.ms ++ x.round.ms) x.round.after.published todo' (next_entries mach view Plain log state lists kept first now new from to room todo todo' started started' slots slots' offers capacity idle idled (Ok went) x) in
+    let all = counts offers x.run.user.large (x.run.ms ++ x.round.ms) x.round.after.published todo' (next_entries mach view Plain log state lists kept first now new from to room todo todo' started started' slots slots' offers capacity idle idled (Ok went) x) in
     subst (λ b. left_of (length offers) slots' (x.run.ms ++ x.round.ms) + cond b 1 0 ≤ left_of (length offers) slots x.run.ms) (sym (next_goes mach view Plain log state lists kept first now new from to room todo todo' started started' slots slots' offers capacity idle idled went x))
     (fewer_left (length (took x.round.ms)) (any_final (posted x.round.ms)) (count_open slots) (count_open slots') (length offers) (length (took x.run.ms)) (length (took (x.run.ms ++ x.round.ms))) landed more (omega (arith, all)))
 
@@ -363,7 +364,7 @@ next_turns mach view Plain log state lists kept first now new from to room todo 
     let one : turns x.round.ms ≡ suc (turns c.rest) = ap turns c.moves in
     x.laws.join.turning x.run.ms x.round.ms ∙ omega (arith, one, c.one)
 
-on_true : (b : Bool) (T : Type 0) → b ≡ true → OnTrue b T → T
+pub on_true : (b : Bool) (T : Type 0) → b ≡ true → OnTrue b T → T
 on_true true T e h = h
 on_true false T e h = cc
 
@@ -372,11 +373,11 @@ goes_some zero cs f = ap (λ b. nat_lt 0 0 || b) (f refl)
 goes_some (suc n) cs f = let some : nat_lt 0 (suc n) ≡ true = grind (arith, nat_tests) in rw some refl
 
 -- where a turn takes none, all entries were taken
-all_taken_first : (offers : List Offer) (ms : List Move) (rest : List Taken) (p n capacity : ℕ) → took ms ++ rest ≡ all_taken offers → p ≡ 0 → (p ≡ capacity) ⊎ (length (took ms) + p ≡ length offers) → 0 < capacity → took ms ≡ all_taken offers
-all_taken_first offers ms rest p n capacity e z full cap = elim full [
+all_taken_first : (offers : List Offer) (large : Bool) (ms : List Move) (rest : List Taken) (p n capacity : ℕ) → took ms ++ rest ≡ all_taken offers large → p ≡ 0 → (p ≡ capacity) ⊎ (length (took ms) + p ≡ length offers) → 0 < capacity → took ms ≡ all_taken offers large
+all_taken_first offers large ms rest p n capacity e z full cap = elim full [
   | inl q ↦ absurd (omega (arith, z, q, cap))
   | inr q ↦
-      let count : length (took ms) + length rest ≡ length offers = sym (length-append (took ms) rest) ∙ ap length e ∙ entries-length offers in
+      let count : length (took ms) + length rest ≡ length offers = sym (length-append (took ms) rest) ∙ ap length e ∙ entries-length offers large in
       let none : rest ≡ [] = none_left rest (omega (arith, q, z, count)) in
       sym (append-nil (took ms)) ∙ ap (λ l. took ms ++ l) (sym none) ∙ e
 ]
@@ -400,7 +401,8 @@ next_prompt mach view Plain log state lists kept first now new from to room todo
     let holds = x.run.holds in
     let room_is : 0 < room_of x.round.at = omega (arith, at_room, none, holds.1) in
     let whole = next_entries mach view Plain log state lists kept first now new from to room todo todo' started started' slots slots' offers capacity idle idled (Ok went) x in
-    let all_six : AllByRecursion IsJobEntry (all_taken offers) = subst (λ o. AllByRecursion IsJobEntry (all_taken o)) (sym x.run.offered) (six_all 0 x.run.jobs x.run.valid x.run.range) in
+    let size = x.run.user.large in
+    let all_six : AllByRecursion IsJobEntry (all_taken offers size) = subst (λ o. AllByRecursion IsJobEntry (all_taken o size)) (sym x.run.offered) (six_all 0 x.run.jobs x.run.valid x.run.range size) in
     let took_all : AllByRecursion IsJobEntry (took (x.run.ms ++ x.round.ms)) = six_front (took (x.run.ms ++ x.round.ms)) (x.round.after.published ++ todo') (subst (AllByRecursion IsJobEntry) (sym (sym (append_assoc (took (x.run.ms ++ x.round.ms)) x.round.after.published todo') ∙ whole)) all_six) in
     let took_both : AllByRecursion IsJobEntry (took x.run.ms ++ took x.round.ms) = subst (AllByRecursion IsJobEntry) (x.laws.join.takes x.run.ms x.round.ms) took_all in
     let six_run : AllByRecursion IsJobEntry (took x.run.ms) = six_front (took x.run.ms) (took x.round.ms) took_both in
@@ -410,9 +412,9 @@ next_prompt mach view Plain log state lists kept first now new from to room todo
     let stood = stands mach view Plain x.laws a b.0 x.run.ms is_idle b.2 six_run in
     let left : 0 < count_open (slots_from 0 offers (posted x.run.ms)) = subst (λ y. 0 < count_open y) x.run.user.told_slots x.unfinished in
     let waits = open_job offers (posted x.run.ms) (ended_in (log_of x.run.ms)) (running_tells mach view Plain log state lists first now from room todo started slots offers capacity idle idled x.run) (running_loud mach view Plain log state lists first now from room todo started slots offers capacity idle idled x.run) left in
-    let pays = turn_pays mach view Plain x.laws x.run.jobs a b.0 x.run.ms w.ts (room_of x.round.at) stood x.run.valid x.run.range six_ts
+    let pays = turn_pays mach view Plain x.laws x.run.jobs a b.0 x.run.ms size w.ts (room_of x.round.at) stood x.run.valid x.run.range six_ts
     (λ z. (
-      all_taken_first offers x.run.ms (x.run.l.published ++ todo) c.p (length offers) x.run.l.capacity (sym (append_assoc (took x.run.ms) x.run.l.published todo) ∙ x.run.user.entries) (omega (arith, number, z)) c.full holds.0 ∙ ap all_taken x.run.offered,
+      all_taken_first offers size x.run.ms (x.run.l.published ++ todo) c.p (length offers) x.run.l.capacity (sym (append_assoc (took x.run.ms) x.run.l.published todo) ∙ x.run.user.entries) (omega (arith, number, z)) c.full holds.0 ∙ ap (λ o. all_taken o size) x.run.offered,
       (waits.0, subst (λ n. waits.0 < n) (ap length x.run.offered ∙ offers_count 0 x.run.jobs) waits.1, ap (λ o. is_answered (quiets_in o) (ended_in (log_of x.run.ms)) waits.0) (sym x.run.offered) ∙ waits.2),
     )) room_is in
     let final : AllFinal (posts_of es) = turn_final mach (length (take_all b.0 w.ts).pending) (room_of x.round.at) (take_all b.0 w.ts) in
@@ -465,6 +467,13 @@ pub next_moves : {W : Type 0} (mach : schedule.Machine W) (view : W → Files) (
 unfolding running_next
 next_moves mach view Plain log state lists kept first now new from to room todo todo' started started' slots slots' offers capacity idle idled went room' idled' x calm e = refl
 
+-- the completion ring stays as large as it was
+pub next_posts : {W : Type 0} (mach : schedule.Machine W) (view : W → Files) (Plain : W → Type 0) {P R : Type 0} (log : P → Option (List LogEvent)) (state : P → Option (schedule.State W)) (lists : R → Option Lists) (kept : Completion → Completion) (first now new : P) (from to : R) (room : ℕ) (todo todo' : List Taken) (started started' : ℕ) (slots slots' : List Slot) (offers : List Offer) (capacity idle idled : ℕ) (went : Bool) (room' idled' : ℕ) → (x : Next mach view Plain log state lists kept first now new from to room todo todo' started started' slots slots' offers capacity idle idled (Ok went)) → (calm : (l : Lists) × (lists to ≡ Some l) × IsCalm l room') (e : idled' ≡ cond went 0 (idled + 1))
+    → (running_next mach view Plain log state lists kept first now new from to room todo todo' started started' slots slots' offers capacity idle idled went room' idled' x calm e).l.completion_capacity ≡ x.run.l.completion_capacity
+unfolding running_next
+next_posts mach view Plain log state lists kept first now new from to room todo todo' started started' slots slots' offers capacity idle idled went room' idled' x calm e =
+    x.round.completion_capacity ∙ ap (λ y. y.completion_capacity) x.round.published ∙ ap (λ y. y.completion_capacity) (same_lists mach view Plain log state lists kept first now new from to room todo todo' started started' slots slots' offers capacity idle idled (Ok went) x)
+
 -- a round that ends with a fault
 
 faulted_next : {W : Type 0} (mach : schedule.Machine W) (view : W → Files) (Plain : W → Type 0) {P R : Type 0} (log : P → Option (List LogEvent)) (state : P → Option (schedule.State W)) (lists : R → Option Lists) (kept : Completion → Completion) (first now new : P) (from to : R) (room : ℕ) (todo todo' : List Taken) (started started' : ℕ) (slots slots' : List Slot) (offers : List Offer) (capacity idle idled : ℕ) (e : RunFault) → (x : Next mach view Plain log state lists kept first now new from to room todo todo' started started' slots slots' offers capacity idle idled (Err e)) → IsGivenUp offers idle (log_of (x.run.ms ++ x.round.ms)) e
@@ -491,6 +500,7 @@ abbrev pub running_ran : {W : Type 0} (mach : schedule.Machine W) (view : W → 
 running_ran mach view Plain log state lists first now ring room todo started slots offers capacity idle idled x few = record {
   ran = record {
     moves = x.ms;
+    large = x.user.large;
     ahead = x.l.published ++ todo;
     logs = x.logs;
     states = x.states;
@@ -533,13 +543,13 @@ pub prompt_end : {W : Type 0} (mach : schedule.Machine W) (view : W → Files) (
 prompt_end mach view Plain log state lists first now ring room todo started slots offers capacity idle idled laws x a told rests =
     let b = served_some mach a x.ms (state now) (subst (λ o. schedule.IsServed mach o x.ms (state now)) told x.states) in
     let few = laws.world.few true a b.0 x.ms rests.pending b.2 (x.prompt a told rests).1 in
-    omega (arith, few, counts offers x.ms x.l.published todo x.user.entries)
+    omega (arith, few, counts offers x.user.large x.ms x.l.published todo x.user.entries)
 
 -- the beginning
-unfoldable pub running_first : {W : Type 0} (mach : schedule.Machine W) (view : W → Files) (Plain : W → Type 0) {P R : Type 0} (log : P → Option (List LogEvent)) (state : P → Option (schedule.State W)) (lists : R → Option Lists) (first : P) (ring : R) (room : ℕ) (todo : List Taken) (started : ℕ) (slots : List Slot) (offers : List Offer) (capacity idle : ℕ)
-    → ModelLaws mach view Plain → (l : Lists) → lists ring ≡ Some l → IsCalm l room → l.published ≡ [] → l.capacity ≡ capacity → todo ≡ all_taken offers → slots ≡ slots_from 0 offers [] → started ≡ 0 → (0 < l.capacity) × (0 < l.completion_capacity) → (jobs : List Job) → offers ≡ offers_from 0 jobs → AllValid jobs → AllInRange jobs
+unfoldable pub running_first : {W : Type 0} (mach : schedule.Machine W) (view : W → Files) (Plain : W → Type 0) {P R : Type 0} (log : P → Option (List LogEvent)) (state : P → Option (schedule.State W)) (lists : R → Option Lists) (first : P) (ring : R) (room : ℕ) (todo : List Taken) (started : ℕ) (slots : List Slot) (offers : List Offer) (large : Bool) (capacity idle : ℕ)
+    → ModelLaws mach view Plain → (l : Lists) → lists ring ≡ Some l → IsCalm l room → l.published ≡ [] → l.capacity ≡ capacity → todo ≡ all_taken offers large → slots ≡ slots_from 0 offers [] → started ≡ 0 → (0 < l.capacity) × (0 < l.completion_capacity) → (jobs : List Job) → offers ≡ offers_from 0 jobs → AllValid jobs → AllInRange jobs
     → Running mach view Plain log state lists first first ring room todo started slots offers capacity idle 0
-running_first mach view Plain log state lists first ring room todo started slots offers capacity idle laws l told calm none size entries told_slots begun holds jobs offered valid range = record {
+running_first mach view Plain log state lists first ring room todo started slots offers large capacity idle laws l told calm none size entries told_slots begun holds jobs offered valid range = record {
   ms = [];
   logs = laws.stay.logs (log first);
   states = laws.world.stay (state first);
@@ -547,7 +557,7 @@ running_first mach view Plain log state lists first ring room todo started slots
   told = told;
   calm = calm;
   size = size;
-  user = subst (λ ts. UserRun offers ts todo [] started slots) (sym none) (user_first offers todo started slots entries begun told_slots);
+  user = subst (λ ts. UserRun offers ts todo [] started slots) (sym none) (user_first offers large todo started slots entries begun told_slots);
   busy = tt;
   within = tt;
   few = let n : count_open slots ≤ length offers = subst (λ y. count_open y ≤ length offers) (sym told_slots) (open_few 0 offers []) in let m : idle * (count_open slots + (length offers - 0)) ≤ idle * (2 * length offers) = mul-le-mul_left idle (omega (arith, n)) in omega (arith, m);
@@ -564,12 +574,12 @@ running_first mach view Plain log state lists first ring room todo started slots
 
 -- for the loop
 
-abbrev pub next_of : {W : Type 0} (mach : schedule.Machine W) (view : W → Files) (Plain : W → Type 0) {P R : Type 0} (log : P → Option (List LogEvent)) (state : P → Option (schedule.State W)) (lists : R → Option Lists) (kept : Completion → Completion) (first now new : P) (from to : R) (room : ℕ) (todo todo' : List Offer) (started started' : ℕ) (slots slots' : List Slot) (offers : List Offer) (capacity idle idled : ℕ) (answer : Result Bool RunFault)
-    → ModelLaws mach view Plain → Running mach view Plain log state lists first now from room (all_taken todo) started slots offers capacity idle idled → Round mach log state lists kept now new from to (all_taken todo) (all_taken todo') started' slots slots' answer → ((c : Completion) → IsKept c (kept c))
-    → started' + length todo' ≡ started + length todo → 0 < count_open slots → idled < idle → Next mach view Plain log state lists kept first now new from to room (all_taken todo) (all_taken todo') started started' slots slots' offers capacity idle idled answer
-next_of mach view Plain log state lists kept first now new from to room todo todo' started started' slots slots' offers capacity idle idled answer laws run round keeps count left waits =
-    let n = length-map todo (λ o. small o.entry o.loan) in
-    let n' = length-map todo' (λ o. small o.entry o.loan) in
+abbrev pub next_of : {W : Type 0} (mach : schedule.Machine W) (view : W → Files) (Plain : W → Type 0) {P R : Type 0} (log : P → Option (List LogEvent)) (state : P → Option (schedule.State W)) (lists : R → Option Lists) (kept : Completion → Completion) (first now new : P) (from to : R) (room : ℕ) (todo todo' : List Offer) (large : Bool) (started started' : ℕ) (slots slots' : List Slot) (offers : List Offer) (capacity idle idled : ℕ) (answer : Result Bool RunFault)
+    → ModelLaws mach view Plain → Running mach view Plain log state lists first now from room (all_taken todo large) started slots offers capacity idle idled → Round mach log state lists kept now new from to (all_taken todo large) (all_taken todo' large) started' slots slots' answer → ((c : Completion) → IsKept c (kept c))
+    → started' + length todo' ≡ started + length todo → 0 < count_open slots → idled < idle → Next mach view Plain log state lists kept first now new from to room (all_taken todo large) (all_taken todo' large) started started' slots slots' offers capacity idle idled answer
+next_of mach view Plain log state lists kept first now new from to room todo todo' large started started' slots slots' offers capacity idle idled answer laws run round keeps count left waits =
+    let n = length-map todo (λ o. as_offered large o.entry o.loan) in
+    let n' = length-map todo' (λ o. as_offered large o.entry o.loan) in
     record { laws = laws; run = run; round = round; keeps = keeps; count = omega (arith, count, n, n'); unfinished = left; waits = omega (arith, waits) }
 
 pub some_open : (b : Bool) (k : ℕ) → (k ≡ 0 → IsTrue b) → b ≡ false → 0 < k
@@ -598,20 +608,20 @@ idled_below true q r idle e w differs = omega (arith, e, w)
 idled_below false q r idle e w differs = omega (arith, e, w, differs)
 
 -- what is open or untaken, by the run
-pub left_by : {W : Type 0} (mach : schedule.Machine W) (view : W → Files) (Plain : W → Type 0) {P R : Type 0} (log : P → Option (List LogEvent)) (state : P → Option (schedule.State W)) (lists : R → Option Lists) (first now : P) (ring : R) (room : ℕ) (todo : List Offer) (started : ℕ) (slots : List Slot) (offers : List Offer) (capacity idle idled : ℕ)
-    → (x : Running mach view Plain log state lists first now ring room (all_taken todo) started slots offers capacity idle idled) → count_open slots + untaken (lists ring) (length todo) ≡ left_of (length offers) slots x.ms
-left_by mach view Plain log state lists first now ring room todo started slots offers capacity idle idled x =
-    let all = counts offers x.ms x.l.published (all_taken todo) x.user.entries in
-    let n = entries-length todo in
+pub left_by : {W : Type 0} (mach : schedule.Machine W) (view : W → Files) (Plain : W → Type 0) {P R : Type 0} (log : P → Option (List LogEvent)) (state : P → Option (schedule.State W)) (lists : R → Option Lists) (first now : P) (ring : R) (room : ℕ) (todo : List Offer) (large : Bool) (started : ℕ) (slots : List Slot) (offers : List Offer) (capacity idle idled : ℕ)
+    → (x : Running mach view Plain log state lists first now ring room (all_taken todo large) started slots offers capacity idle idled) → count_open slots + untaken (lists ring) (length todo) ≡ left_of (length offers) slots x.ms
+left_by mach view Plain log state lists first now ring room todo large started slots offers capacity idle idled x =
+    let all = counts offers x.user.large x.ms x.l.published (all_taken todo large) x.user.entries in
+    let n = entries-length todo large in
     ap (λ o. count_open slots + untaken o (length todo)) x.told ∙ omega (arith, all, n)
 
 -- and how one more round lowers it
-pub next_smaller : {W : Type 0} (mach : schedule.Machine W) (view : W → Files) (Plain : W → Type 0) {P R : Type 0} (log : P → Option (List LogEvent)) (state : P → Option (schedule.State W)) (lists : R → Option Lists) (kept : Completion → Completion) (first now new : P) (from to : R) (room : ℕ) (todo todo' : List Offer) (started started' : ℕ) (slots slots' : List Slot) (offers : List Offer) (capacity idle idled : ℕ) (went : Bool)
-    → (x : Next mach view Plain log state lists kept first now new from to room (all_taken todo) (all_taken todo') started started' slots slots' offers capacity idle idled (Ok went)) → (count_open slots' + untaken (lists to) (length todo')) + cond went 1 0 ≤ count_open slots + untaken (lists from) (length todo)
-next_smaller mach view Plain log state lists kept first now new from to room todo todo' started started' slots slots' offers capacity idle idled went x =
-    let before = left_by mach view Plain log state lists first now from room todo started slots offers capacity idle idled x.run in
-    let all = counts offers (x.run.ms ++ x.round.ms) x.round.after.published (all_taken todo') (next_entries mach view Plain log state lists kept first now new from to room (all_taken todo) (all_taken todo') started started' slots slots' offers capacity idle idled (Ok went) x) in
-    let n = entries-length todo' in
+pub next_smaller : {W : Type 0} (mach : schedule.Machine W) (view : W → Files) (Plain : W → Type 0) {P R : Type 0} (log : P → Option (List LogEvent)) (state : P → Option (schedule.State W)) (lists : R → Option Lists) (kept : Completion → Completion) (first now new : P) (from to : R) (room : ℕ) (todo todo' : List Offer) (large : Bool) (started started' : ℕ) (slots slots' : List Slot) (offers : List Offer) (capacity idle idled : ℕ) (went : Bool)
+    → (x : Next mach view Plain log state lists kept first now new from to room (all_taken todo large) (all_taken todo' large) started started' slots slots' offers capacity idle idled (Ok went)) → (count_open slots' + untaken (lists to) (length todo')) + cond went 1 0 ≤ count_open slots + untaken (lists from) (length todo)
+next_smaller mach view Plain log state lists kept first now new from to room todo todo' large started started' slots slots' offers capacity idle idled went x =
+    let before = left_by mach view Plain log state lists first now from room todo large started slots offers capacity idle idled x.run in
+    let all = counts offers x.run.user.large (x.run.ms ++ x.round.ms) x.round.after.published (all_taken todo' large) (next_entries mach view Plain log state lists kept first now new from to room (all_taken todo large) (all_taken todo' large) started started' slots slots' offers capacity idle idled (Ok went) x) in
+    let n = entries-length todo' large in
     let after : count_open slots' + untaken (lists to) (length todo') ≡ left_of (length offers) slots' (x.run.ms ++ x.round.ms) =
     ap (λ o. count_open slots' + untaken o (length todo')) x.round.told_after ∙ omega (arith, all, n) in
-    omega (arith, before, after, next_left mach view Plain log state lists kept first now new from to room (all_taken todo) (all_taken todo') started started' slots slots' offers capacity idle idled went x)
+    omega (arith, before, after, next_left mach view Plain log state lists kept first now new from to room (all_taken todo large) (all_taken todo' large) started started' slots slots' offers capacity idle idled went x)

@@ -54,7 +54,7 @@ full_of jobs capacity idle ms full = subst (λ n. InFullTurns capacity n idle ms
 -- nothing was done
 pub not_driven : {W : Type 0} (mach : schedule.Machine W) (view : W → Files) (Plain : W → Type 0) {P : Type 0} (laws : ModelLaws mach view Plain) (log : P → Option (List LogEvent)) (state : P → Option (schedule.State W)) (p : P) (jobs : List Job) (capacity idle : ℕ) → Driven mach log state p p (offers_from 0 jobs) capacity idle
 not_driven mach view Plain laws log state p jobs capacity idle = record {
-  ran = record { moves = []; ahead = all_taken (offers_from 0 jobs); logs = laws.stay.logs (log p); states = laws.world.stay (state p); entries = refl; within = tt };
+  ran = record { moves = []; large = false; ahead = all_taken (offers_from 0 jobs) false; logs = laws.stay.logs (log p); states = laws.world.stay (state p); entries = refl; within = tt };
   full = record { busy = tt; few = omega arith };
 }
 
@@ -101,15 +101,15 @@ pub from_idle : {W : Type 0} (mach : schedule.Machine W) (view : W → Files) (P
 from_idle mach view Plain laws log state old new jobs d valid range a told rests =
     let served = served_some mach a d.moves (state new) (subst (λ o. schedule.IsServed mach o d.moves (state new)) told d.states) in
     let b = served.0 in
-    let same_jobs : map job_of (took d.moves ++ d.ahead) ≡ last_unlinked (model_jobs jobs) = ap (map job_of) d.entries ∙ asks_all 0 jobs valid range in
-    let numbered : Numbered 0 (took d.moves ++ d.ahead) = subst (Numbered 0) (sym d.entries) (numbered_all 0 jobs) in
-    let six : AllByRecursion IsJobEntry (took d.moves) = six_front (took d.moves) d.ahead (subst (AllByRecursion IsJobEntry) (sym d.entries) (six_all 0 jobs valid range)) in
+    let same_jobs : map job_of (took d.moves ++ d.ahead) ≡ last_unlinked (model_jobs jobs) = ap (map job_of) d.entries ∙ asks_all 0 jobs valid range d.large in
+    let numbered : Numbered 0 (took d.moves ++ d.ahead) = subst (Numbered 0) (sym d.entries) (numbered_all 0 jobs d.large) in
+    let six : AllByRecursion IsJobEntry (took d.moves) = six_front (took d.moves) d.ahead (subst (AllByRecursion IsJobEntry) (sym d.entries) (six_all 0 jobs valid range d.large)) in
     let files = laws.world.steps_seen true a b d.moves (record { world = rests.plain; pending = subst (AllByRecursion (λ i. IsJobEntry i.taken)) (sym rests.pending) tt }) six served.2 in
     let calls : filed.IsServed (Some (viewed view a)) d.moves (Some (viewed view b)) = files.0 in
     let resting : filed.IsIdle (viewed view a) = record { pending = rests.pending; tail = rests.tail } in
     let steps = laws.idle_moves (viewed view a) (viewed view b) d.moves resting calls in
-    let own : AllByRecursion (HasOwnLoan (lends_at jobs)) (took d.moves ++ d.ahead) = subst (AllByRecursion (HasOwnLoan (lends_at jobs))) (sym d.entries) (own_all (replies_at jobs) (lends_at jobs) (λ j. refl) 0 jobs (replies_first jobs)) in
-    let entries_ask : AllByRecursion (λ t. asks (replies_at jobs) t ≡ true) (took d.moves ++ d.ahead) = subst (AllByRecursion (λ t. asks (replies_at jobs) t ≡ true)) (sym d.entries) (asks_list (replies_at jobs) 0 jobs (replies_first jobs) valid range) in
+    let own : AllByRecursion (HasOwnLoan (lends_at jobs)) (took d.moves ++ d.ahead) = subst (AllByRecursion (HasOwnLoan (lends_at jobs))) (sym d.entries) (own_all (replies_at jobs) (lends_at jobs) (λ j. refl) 0 jobs (replies_first jobs) d.large) in
+    let entries_ask : AllByRecursion (λ t. asks (replies_at jobs) t ≡ true) (took d.moves ++ d.ahead) = subst (AllByRecursion (λ t. asks (replies_at jobs) t ≡ true)) (sym d.entries) (asks_list (replies_at jobs) 0 jobs (replies_first jobs) valid range d.large) in
     let linked = valid_linked jobs valid in
     let quiet : ℕ → Bool = quiet_at (quiets_at jobs) in
     let marks : quiets_at jobs ≡ quiets_of (model_jobs jobs) = quiets_jobs 0 jobs in

@@ -1,33 +1,35 @@
 -- The rounds of a run by what the user offered and reaped, one after another.
-use Rattle.std.proofs.Common.{◌≡◌, ℕ, ◌+◌, ◌<◌, ◌≤◌, zero, suc, Bool, true, false, ◌||◌, not, cond, nat_lt, Ok, Err, List, [], ◌∷◌, ◌++◌, length, map, slice_get, Some, None, refl, ap, sym, subst, ◌∙◌, append_assoc, append-nil, length-append, arith}
+use Rattle.std.proofs.Common.{◌≡◌, ℕ, ◌+◌, ◌<◌, ◌≤◌, ◌⊎◌, inl, inr, zero, suc, Bool, true, false, ◌||◌, not, cond, nat_lt, Result, Ok, Err, OnOk, IfErr, Option, List, [], ◌∷◌, ◌++◌, length, map, slice_get, slice_set, Some, None, refl, ap, sym, subst, ◌∙◌, append_assoc, append-nil, length-append, arith}
 use Rattle.std.proofs.lemmas.Bool.Decides.{nat_tests}
 use Rattle.std.proofs.lemmas.List.{length-map}
 use Rattle.uring_base.specs.declared.events.Taken.{Taken}
 use Rattle.uring_base.specs.declared.events.Completion.{Completion}
+use Rattle.uring_base.specs.Completions.{is_final}
 use Rattle.uring_model.specs.declared.jobs.RunFault.{RunFault}
 use Rattle.uring_model.specs.declared.jobs.RunFault.TheVariants as faults
 use Rattle.uring_model.specs.Moves.{Posted, posted, log_of}
 use Rattle.uring_model.specs.Progress.{turns}
 use Rattle.uring_model.specs.Strange.{nothing_seen, all_seen, is_answered, ended_in, first_strange}
-use Rattle.ring_traits.specs.Lists.{small}
+use Rattle.ring_traits.specs.Lists.{as_offered}
 use Rattle.run_loop.specs.declared.entries.Offer.{Offer}
 use Rattle.run_loop.specs.declared.slot.Slot.{Slot}
 use Rattle.run_loop.specs.declared.slot.Slot.TheVariants.{Open, Done}
 use Rattle.run_loop.specs.Entries.{all_taken, lends_in, quiets_in}
 use Rattle.run_loop.specs.Flights.{AreAhead}
-use Rattle.run_loop.specs.Rounds.{is_stranger_fault}
-use Rattle.run_loop.specs.Slots.{count_open, slots_from, is_strange_at, is_unexpected, land_one, land_all, stranger_among}
-use Rattle.run_loop.specs.Told.{unposted}
-use Rattle.run_loop.specs.UserRounds.{UserRun, UserRound, UserRounds, EndsAtStranger}
+use Rattle.run_loop.specs.Rounds.{is_partner_fault, is_stranger_fault}
+use Rattle.run_loop.specs.Slots.{count_open, slots_from, is_strange_at, is_unexpected, land_in, land_one, land_all, all_closed, stranger_among}
+use Rattle.run_loop.specs.Told.{Ending, outcome_from, unposted}
+use Rattle.run_loop.specs.UserRounds.{UserSent, UserRun, UserRound, UserRounds, EndsAtStranger, EndsBy}
+use Rattle.run_loop.proofs.Closing.{closed-length}
 use Rattle.run_loop.proofs.Posts.{Tells, last_is_quiet, tells_after, done_jobs, same_strangers, passes, lands_all, slots-length}
 use Rattle.run_loop.proofs.SlotLemmas.{count_of_done}
 
-pub entries-length : (offers : List Offer) → length (all_taken offers) ≡ length offers
-entries-length offers = length-map offers (λ o. small o.entry o.loan)
+pub entries-length : (offers : List Offer) (large : Bool) → length (all_taken offers large) ≡ length offers
+entries-length offers large = length-map offers (λ o. as_offered large o.entry o.loan)
 
 -- before the first round
-pub user_first : (offers : List Offer) (todo : List Taken) (started : ℕ) (slots : List Slot) → todo ≡ all_taken offers → started ≡ 0 → slots ≡ slots_from 0 offers [] → UserRun offers [] todo [] started slots
-user_first offers todo started slots e z s = record { entries = e; started_is = z; told_slots = s; expected = refl }
+pub user_first : (offers : List Offer) (large : Bool) (todo : List Taken) (started : ℕ) (slots : List Slot) → todo ≡ all_taken offers large → started ≡ 0 → slots ≡ slots_from 0 offers [] → UserRun offers [] todo [] started slots
+user_first offers large todo started slots e z s = record { large = large; entries = e; started_is = z; told_slots = s; expected = refl }
 
 -- one more round
 
@@ -63,8 +65,8 @@ none_strange_first n slots (c ∷ cs) ds e =
     let p = passes (is_unexpected n slots c) c.user_data (stranger_among n (land_one slots c) (cs ++ ds)) e in
     ap (λ b. cond b (Some c.user_data) (stranger_among n (land_one slots c) cs)) p.0 ∙ none_strange_first n (land_one slots c) cs ds p.1
 
-pub user_entries : (offers : List Offer) (offered ts todo todo' : List Taken) → offered ++ todo ≡ all_taken offers → todo ≡ ts ++ todo' → (offered ++ ts) ++ todo' ≡ all_taken offers
-user_entries offers offered ts todo todo' e split = append_assoc offered ts todo' ∙ ap (λ l. offered ++ l) (sym split) ∙ e
+pub user_entries : (all offered ts todo todo' : List Taken) → offered ++ todo ≡ all → todo ≡ ts ++ todo' → (offered ++ ts) ++ todo' ≡ all
+user_entries all offered ts todo todo' e split = append_assoc offered ts todo' ∙ ap (λ l. offered ++ l) (sym split) ∙ e
 
 user_strangers : (offers : List Offer) (offered todo : List Taken) (reaped cs : List Completion) (started started' : ℕ) (slots : List Slot) → UserRun offers offered todo reaped started slots → started ≤ started'
     → stranger_among started' (slots_from 0 offers []) (reaped ++ cs) ≡ stranger_among started' slots cs
@@ -75,7 +77,8 @@ user_strangers offers offered todo reaped cs started started' slots x le =
 pub user_next : (offers : List Offer) (offered ts todo todo' : List Taken) (reaped cs : List Completion) (started started' : ℕ) (slots slots' : List Slot) → UserRun offers offered todo reaped started slots
     → todo ≡ ts ++ todo' → started' ≡ started + length ts → stranger_among started' slots cs ≡ None → slots' ≡ land_all slots cs → UserRun offers (offered ++ ts) todo' (reaped ++ cs) started' slots'
 user_next offers offered ts todo todo' reaped cs started started' slots slots' x split starts due lands = record {
-  entries = user_entries offers offered ts todo todo' x.entries split;
+  large = x.large;
+  entries = user_entries (all_taken offers x.large) offered ts todo todo' x.entries split;
   started_is = let n : length (offered ++ ts) ≡ length offered + length ts = length-append offered ts in omega (arith, n, starts, x.started_is);
   told_slots = lands ∙ ap (λ s. land_all s cs) x.told_slots ∙ lands_all started' offers reaped cs (ap (λ s. stranger_among started' s cs) (sym x.told_slots) ∙ due);
   expected = user_strangers offers offered todo reaped cs started started' slots x (omega (arith, starts)) ∙ due;
@@ -95,10 +98,10 @@ none_ahead : (n : ℕ) (slots : List Slot) (todo : List Offer) → AreAhead n sl
 none_ahead n slots [] ahead none = refl
 none_ahead n slots (offer ∷ todo) ahead none = let one = count_of_done slots n offer.reply offer.quiet unposted ahead.0.slot in absurd (omega (arith, one, none))
 
-pub user_started : (offers : List Offer) (offered : List Taken) (todo : List Offer) (reaped : List Completion) (started : ℕ) (slots : List Slot) → UserRun offers offered (all_taken todo) reaped started slots → AreAhead started slots todo → count_open slots ≡ 0 → started ≡ length offers
-user_started offers offered todo reaped started slots x ahead none =
-    let left : length (all_taken todo) ≡ 0 = ap (λ l. length (all_taken l)) (none_ahead started slots todo ahead none) in
-    let all : length offered + length (all_taken todo) ≡ length offers = sym (length-append offered (all_taken todo)) ∙ ap length x.entries ∙ entries-length offers in
+pub user_started : (offers : List Offer) (offered : List Taken) (todo : List Offer) (large : Bool) (reaped : List Completion) (started : ℕ) (slots : List Slot) → UserRun offers offered (all_taken todo large) reaped started slots → AreAhead started slots todo → count_open slots ≡ 0 → started ≡ length offers
+user_started offers offered todo large reaped started slots x ahead none =
+    let left : length (all_taken todo large) ≡ 0 = ap (λ l. length (all_taken l large)) (none_ahead started slots todo ahead none) in
+    let all : length offered + length (all_taken todo large) ≡ length offers = sym (length-append offered (all_taken todo large)) ∙ ap length x.entries ∙ entries-length offers x.large in
     omega (arith, all, x.started_is, left)
 
 pub user_slots : (offers : List Offer) (offered todo : List Taken) (reaped : List Completion) (started : ℕ) (slots : List Slot) → UserRun offers offered todo reaped started slots → length slots ≡ length offers
@@ -110,7 +113,7 @@ no_turns : (cs : List Completion) → turns (map Posted cs) ≡ 0
 no_turns [] = refl
 no_turns (c ∷ cs) = no_turns cs
 
-all_posted : (cs : List Completion) → posted (map Posted cs) ≡ cs
+pub all_posted : (cs : List Completion) → posted (map Posted cs) ≡ cs
 all_posted [] = refl
 all_posted (c ∷ cs) = ap (λ l. c ∷ l) (all_posted cs)
 
@@ -161,6 +164,26 @@ module _ {R : Type 0} (used : R → List Taken → List Completion → R → Typ
   pub reaps_polls : (a b c : R) (cs : List Completion) → used a [] cs b → used b [] [] c → used a [] cs c
   reaps_polls a b c cs p q = subst (λ l. used a [] l c) (append-nil cs) (joins a b c [] [] cs [] p q)
 
+  -- it offers the first of these entries, and of those behind them what comes next
+  pub sent_then : (a b c : R) (ts ahead todo : List Taken) (cs : List Completion) → used a ts cs b → ahead ≡ ts ++ todo → UserSent used b c todo → UserSent used a c ahead
+  sent_then a b c ts ahead todo cs p e q = record {
+    offered = ts ++ q.offered;
+    rest = q.rest;
+    reaped = cs ++ q.reaped;
+    uses = joins a b c ts q.offered cs q.reaped p q.uses;
+    entries = e ∙ ap (λ l. ts ++ l) q.entries ∙ sym (append_assoc ts q.offered q.rest);
+  }
+
+  -- the first of these entries are the first of more
+  pub sent_before : (a b : R) (todo more : List Taken) → UserSent used a b todo → UserSent used a b (todo ++ more)
+  sent_before a b todo more q = record {
+    offered = q.offered;
+    rest = q.rest ++ more;
+    reaped = q.reaped;
+    uses = q.uses;
+    entries = ap (λ l. l ++ more) q.entries ∙ append_assoc q.offered q.rest more;
+  }
+
   module _ (room waiting : R → ℕ) (first from to : R) (offers : List Offer) (todo todo' : List Taken) (started started' : ℕ) (slots slots' : List Slot) (x : UserRounds used first from offers todo started slots) where
     -- one more round of a run
     pub rounds_next : (fin : Bool) → UserRound used room waiting from to todo todo' started started' slots slots' (Ok fin) → UserRounds used first to offers todo' started' slots'
@@ -176,7 +199,8 @@ module _ {R : Type 0} (used : R → List Taken → List Completion → R → Typ
       offered = x.offered ++ r.ts;
       reaped = x.reaped ++ r.cs;
       uses = joins first from to x.offered r.ts x.reaped r.cs x.uses r.uses;
-      entries = user_entries offers x.offered r.ts todo todo' x.run.entries r.offered;
+      large = x.run.large;
+      entries = user_entries (all_taken offers x.run.large) x.offered r.ts todo todo' x.run.entries r.offered;
       strange = user_stranger offers x.offered r.ts todo todo' x.reaped r.cs started started' slots u x.run r.starts r.ends;
     }
 
@@ -189,6 +213,74 @@ module _ {R : Type 0} (used : R → List Taken → List Completion → R → Typ
     rounds_end faults.PartnerFault h r = cc
     rounds_end faults.NoMemory h r = cc
 
+    -- however it ended
+    pub rounds_fault : (e : RunFault) → ((e ≡ faults.NoMemory) × UserSent used from to todo) ⊎ ((is_stranger_fault e ≡ true) × UserRound used room waiting from to todo todo' started started' slots slots' (Err e)) → EndsBy used first to offers e
+    rounds_fault e (inl p) = subst (EndsBy used first to offers) (sym p.0) (x.run.large, sent_then first from to x.offered (all_taken offers x.run.large) todo x.reaped x.uses (sym x.run.entries) p.1)
+    rounds_fault e (inr p) = let q = rounds_end e p.0 p.1 in subst (EndsBy used first to offers) (sym q.1) (todo', q.2)
+
+-- the rounds so far offered the first entries
+pub rounds_sent : {R : Type 0} (used : R → List Taken → List Completion → R → Type 0) (first to : R) (offers : List Offer) (todo : List Taken) (started : ℕ) (slots : List Slot) → (x : UserRounds used first to offers todo started slots) → UserSent used first to (all_taken offers x.run.large)
+rounds_sent used first to offers todo started slots x = record { offered = x.offered; rest = todo; reaped = x.reaped; uses = x.uses; entries = sym x.run.entries }
+
 -- before the first round
-pub rounds_first : {R : Type 0} (used : R → List Taken → List Completion → R → Type 0) → ((a : R) → used a [] [] a) → (first : R) (offers : List Offer) (started : ℕ) (slots : List Slot) → started ≡ 0 → slots ≡ slots_from 0 offers [] → UserRounds used first first offers (all_taken offers) started slots
-rounds_first used stays first offers started slots z s = record { offered = []; reaped = []; uses = stays first; run = user_first offers (all_taken offers) started slots refl z s }
+pub rounds_first : {R : Type 0} (used : R → List Taken → List Completion → R → Type 0) → ((a : R) → used a [] [] a) → (first : R) (offers : List Offer) (large : Bool) (started : ℕ) (slots : List Slot) → started ≡ 0 → slots ≡ slots_from 0 offers [] → UserRounds used first first offers (all_taken offers large) started slots
+rounds_first used stays first offers large started slots z s = record { offered = []; reaped = []; uses = stays first; run = user_first offers large (all_taken offers large) started slots refl z s }
+
+-- a round keeps the number of slots
+
+set-length : (slots : List Slot) (n : ℕ) (slot : Slot) → length (slice_set slots n slot) ≡ length slots
+set-length [] n slot = refl
+set-length (s ∷ slots) zero slot = refl
+set-length (s ∷ slots) (suc n) slot = ap suc (set-length slots n slot)
+
+land_in-length : (at : Option Slot) (slots : List Slot) (n : ℕ) (e : Ending) → length (land_in at slots n e) ≡ length slots
+land_in-length None slots n e = refl
+land_in-length (Some (Done o)) slots n e = refl
+land_in-length (Some (Open reply quiet)) slots n e = set-length slots n (Done (outcome_from reply e))
+
+either-length : (b : Bool) (left right : List Slot) (n : ℕ) → length left ≡ n → length right ≡ n → length (cond b left right) ≡ n
+either-length true left right n h k = h
+either-length false left right n h k = k
+
+land-length : (slots : List Slot) (cs : List Completion) → length (land_all slots cs) ≡ length slots
+land-length slots [] = refl
+land-length slots (c ∷ cs) =
+    let landed = land_in (slice_get slots c.user_data) slots c.user_data (record { result = c.result; loan = c.loan }) in
+    land-length (land_one slots c) cs
+    ∙ either-length (is_final c.flags) (all_closed landed) slots (length slots) (closed-length landed ∙ land_in-length (slice_get slots c.user_data) slots c.user_data (record { result = c.result; loan = c.loan })) refl
+
+-- a round, whatever its answer
+
+module _ {R : Type 0} (used : R → List Taken → List Completion → R → Type 0) (joins : Joins used) (room waiting : R → ℕ) (from to : R) (todo todo' : List Taken) (started started' : ℕ) (slots slots' : List Slot) where
+  pub round_goes : (answer : Result Bool RunFault) → OnOk answer (UserRound used room waiting from to todo todo' started started' slots slots' answer)
+      → OnOk answer ((first : R) (offers : List Offer) → UserRounds used first from offers todo started slots → UserRounds used first to offers todo' started' slots')
+  round_goes (Ok fin) r = λ first offers x. rounds_next used joins room waiting first from to offers todo todo' started started' slots slots' x fin r
+  round_goes (Err e) r = tt
+
+  pub round_slots : (answer : Result Bool RunFault) → OnOk answer (UserRound used room waiting from to todo todo' started started' slots slots' answer) → OnOk answer (length slots' ≡ length slots)
+  round_slots (Ok fin) r = ap length r.ends.1 ∙ land-length slots r.cs
+  round_slots (Err e) r = tt
+
+  pub round_faults : (answer : Result Bool RunFault)
+      → IfErr answer (λ e. ((e ≡ faults.NoMemory) × UserSent used from to todo) ⊎ ((is_stranger_fault e ≡ true) × UserRound used room waiting from to todo todo' started started' slots slots' answer))
+      → IfErr answer (λ e. (first : R) (offers : List Offer) → UserRounds used first from offers todo started slots → EndsBy used first to offers e)
+  round_faults (Ok fin) h = tt
+  round_faults (Err e) h = λ first offers x. rounds_fault used joins room waiting first from to offers todo todo' started started' slots slots' x e h
+
+stranger_apart : (e : RunFault) → is_stranger_fault e ≡ true → is_partner_fault e ≡ false
+stranger_apart (faults.Stranger u) h = refl
+stranger_apart faults.BadSize h = cc
+stranger_apart (faults.BadJob n) h = cc
+stranger_apart faults.Stalled h = cc
+stranger_apart faults.PartnerFault h = cc
+stranger_apart faults.NoMemory h = cc
+
+-- its fault is never the partner's
+pub own_fault : {T : Type 0} (answer : Result T RunFault) (A B : Type 0) → IfErr answer (λ e. ((e ≡ faults.NoMemory) × A) ⊎ ((is_stranger_fault e ≡ true) × B)) → IfErr answer (λ e. is_partner_fault e ≡ false)
+own_fault (Ok x) A B h = tt
+own_fault (Err e) A B (inl p) = ap is_partner_fault p.0
+own_fault (Err e) A B (inr p) = stranger_apart e p.0
+
+pub stays_inside : {T : Type 0} (answer : Result T RunFault) (n n' m m' k k' : ℕ) → OnOk answer (n' + m' ≡ n + m) → OnOk answer (k' ≡ k) → n + m ≤ k → OnOk answer (n' + m' ≤ k')
+stays_inside (Ok x) n n' m m' k k' e f h = omega (arith, e, f, h)
+stays_inside (Err x) n n' m m' k k' e f h = tt

@@ -13,7 +13,7 @@ use Rattle.uring_model.specs.declared.jobs.Job.{Job}
 use Rattle.uring_model.specs.declared.jobs.JobKind.{JobKind}
 use Rattle.uring_model.specs.declared.jobs.JobKind.TheVariants.{Nop, Read, Write, Fsync, Ftruncate, Cancel}
 use Rattle.uring_model.specs.Jobs.{model_job, is_valid_job}
-use Rattle.ring_traits.specs.Lists.{small}
+use Rattle.ring_traits.specs.Lists.{as_offered}
 use Rattle.run_loop.specs.declared.entries.Offer.{Offer}
 use Rattle.run_loop.specs.declared.slot.Reply.{Reply}
 use Rattle.run_loop.specs.declared.slot.Reply.TheVariants.{Plain}
@@ -63,13 +63,13 @@ offers_from j [] = []
 offers_from j (job ∷ []) = offer_of j (unlinked_if true job) ∷ []
 offers_from j (job ∷ next ∷ jobs) = offer_of j job ∷ offers_from (j + 1) (next ∷ jobs)
 
--- the entries, as a partner takes them
+-- the entries, as a partner takes them, by the size that the ring gives to what is offered
 
-abbrev pub all_taken : List Offer → List Taken
-all_taken offers = map (λ o. small o.entry o.loan) offers
+abbrev pub all_taken : List Offer → Bool → List Taken
+all_taken offers large = map (λ o. as_offered large o.entry o.loan) offers
 
-abbrev pub entries_from : ℕ → List Job → List Taken
-entries_from j jobs = all_taken (offers_from j jobs)
+abbrev pub entries_from : ℕ → List Job → Bool → List Taken
+entries_from j jobs large = all_taken (offers_from j jobs) large
 
 -- what the outcome of offer j tells; whether it lends a buffer, and whether job j does
 

@@ -9,4 +9,7 @@ pub mod Rounds
 pub mod UserRounds
 pub mod Memory
 pub mod Runs
+pub mod SharedRounds
+pub mod SharedRuns
 pub mod Driven
+pub mod Turns

@@ -1,5 +1,5 @@
 -- What a run of jobs promises over every partner.
-use Rattle.std.specs.Prelude.{◌≡◌, ℕ, suc, ◌+◌, ◌*◌, ◌≤◌, ◌<◌, true, false, if◌then◌else◌, List, [], ◌∷◌, ◌++◌, length, map, Result, Ok, Err, Option, Some, None, IfOk, IfErr, IfSome}
+use Rattle.std.specs.Prelude.{◌≡◌, ℕ, suc, ◌+◌, ◌*◌, ◌≤◌, ◌<◌, Bool, true, false, if◌then◌else◌, List, [], ◌∷◌, ◌++◌, length, map, Result, Ok, Err, Option, Some, None, IfOk, IfErr, IfSome}
 use Rattle.std.specs.Option.{option_map}
 use Rattle.uring_base.specs.declared.events.Taken.{Taken}
 use Rattle.uring_base.specs.declared.events.LogEvent.{LogEvent}
@@ -27,12 +27,14 @@ use Rattle.run_loop.specs.Told.{first_final, idle_turns, reply_for, outcome_by, 
 
 -- What the partner did in a run, whatever its answer, and whenever its turns came: `moves` are what its log and its state
 -- gained, where it tells them. It took the entries in their order, and in each turn no more than its number.
-pub record Ran {W : Type 0} (mach : schedule.Machine W) {P : Type 0} (log : P → Option (List LogEvent)) (state : P → Option (schedule.State W)) (old new : P) (offered : List Taken) : Type 0 where
+pub record Ran {W : Type 0} (mach : schedule.Machine W) {P : Type 0} (log : P → Option (List LogEvent)) (state : P → Option (schedule.State W)) (old new : P) (offered : Bool → List Taken) : Type 0 where
   pub moves : List Move
+  -- the size that the ring gave to the entries
+  pub large : Bool
   pub ahead : List Taken
   pub logs : IsLogged (log old) moves (log new)
   pub states : schedule.IsServed mach (state old) moves (state new)
-  pub entries : took moves ++ ahead ≡ offered
+  pub entries : took moves ++ ahead ≡ offered large
   pub within : TakesWithinTurns 0 moves
 
 -- When the turns of a run came: each with the ring full or all jobs pushed, and at most `idle` turns twice a job.

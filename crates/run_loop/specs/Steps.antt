@@ -5,7 +5,7 @@ use Rattle.uring_base.specs.declared.flags.TheConstants.Flags.{IO_DRAIN, IO_LINK
 use Rattle.uring_base.specs.declared.squeue.Entry.{Entry}
 use Rattle.uring_base.specs.declared.events.Taken.{Taken}
 use Rattle.uring_base.specs.declared.events.Completion.{Completion}
-use Rattle.ring_traits.specs.Lists.{Lists, Becomes, small}
+use Rattle.ring_traits.specs.Lists.{Lists, Becomes, as_offered}
 use Rattle.uring_model.specs.declared.jobs.JobKind.{JobKind}
 use Rattle.uring_model.specs.declared.jobs.Link.{Link}
 use Rattle.uring_model.specs.declared.jobs.Link.TheVariants.{Free, Soft, Hard}
@@ -41,9 +41,9 @@ abbrev pub with_marks : ℕ → JobKind → Bool → ℕ → Entry
 with_marks n kind quiet bits = record (job_words n kind) { flags = skipping quiet (bit_or (job_words n kind).flags bits); user_data = n }
 
 -- The job's entry was offered under its number, with its buffer lent, and its operation is in flight.
-pub record IsBegun {R : Type 0} (used : R → List Taken → List Completion → R → Type 0) (lists : R → Option Lists) (room waiting : R → ℕ) (n : ℕ) (kind : JobKind) (quiet : Bool) (bits : ℕ) (before after : R) (ops ops' : Ops) (op : JobOp) : Type 0 where
-  pub uses : used before (small (with_marks n kind quiet bits) (job_loan n kind) ∷ []) [] after
-  pub told : Becomes (lists before) (pushed_more (small (with_marks n kind quiet bits) (job_loan n kind) ∷ [])) (lists after)
+pub record IsBegun {R : Type 0} (large : Bool) (used : R → List Taken → List Completion → R → Type 0) (lists : R → Option Lists) (room waiting : R → ℕ) (n : ℕ) (kind : JobKind) (quiet : Bool) (bits : ℕ) (before after : R) (ops ops' : Ops) (op : JobOp) : Type 0 where
+  pub uses : used before (as_offered large (with_marks n kind quiet bits) (job_loan n kind) ∷ []) [] after
+  pub told : Becomes (lists before) (pushed_more (as_offered large (with_marks n kind quiet bits) (job_loan n kind) ∷ [])) (lists after)
   pub places : room before ≡ room after + 1
   pub seen : waiting after ≡ waiting before
   pub operations : ops' ≡ started n (lends (reply_for kind)) (next_for n quiet) ops

@@ -1,6 +1,6 @@
 //! A run, round by round.
 
-ghost use Rattle.std.specs.Prelude.{◌≡◌, ◌+◌, ◌<◌, ◌≤◌, ◌^◌, ℕ, cond, false, List, [], None, Some, MatchResult, IfErr, IfSome, IsTrue, Contains, length};
+ghost use Rattle.std.specs.Prelude.{◌≡◌, ◌+◌, ◌<◌, ◌≤◌, ◌^◌, ℕ, cond, false, List, [], None, Some, MatchResult, IfErr, IfSome, IsTrue, OnOk, Contains, length};
 ghost use Rattle.uring_base.specs.Causes.{HasCause};
 ghost use Rattle.uring_model.specs.Moves.{posted, log_of};
 ghost use Rattle.uring_model.specs.Schedule.{State};
@@ -14,6 +14,7 @@ ghost use Rattle.run_loop.specs.Rounds.{IsCalm, PlacesGoOn, is_partner_fault, is
 ghost use Rattle.run_loop.specs.Driven.{Driven, IsGivenUp};
 ghost use Rattle.run_loop.specs.Slots.{count_open, slots_from};
 ghost use Rattle.run_loop.specs.Flights.{IsSettled};
+ghost use Rattle.run_loop.specs.Turns.{RanInTurns};
 
 use crate::job_table::JobTable;
 use crate::laws::model_laws;
@@ -59,6 +60,7 @@ pub fn drive<R: UserEnds + PartnerSide, P: Partner>(
     ensures unplanned { IfSome (P.state partner.old) (λ _. P.plan partner.old ≡ [] → IfErr result (λ e. is_partner_fault e ≡ false)) }
     ensures plan { P.plan partner.old ≡ [] → P.plan partner.new ≡ [] }
     ensures calm { IfSome (P.state partner.old) (λ _. P.plan partner.old ≡ [] → P.faults partner.new ≡ P.faults partner.old) }
+    ensures turns { OnOk result (IfSome (P.state partner.old) (λ a. RanInTurns P.machine P.Plain P.log (R.entries_fit engine.old.ring) (R.completions_fit engine.old.ring) a partner.old partner.new)) }
     ensures unstalled { IfSome (P.state partner.old) (λ a. IsPlainAndIdle P.Plain a → IfErr result (λ e. is_stall e ≡ false)) }
 {
     model_laws::<P>();

@@ -1,11 +1,12 @@
 //! One round of a run.
 
-ghost use Rattle.std.specs.Prelude.{◌≡◌, ◌+◌, ◌⊎◌, ◌<◌, ◌≤◌, ◌^◌, ◌++◌, ◌∷◌, ◌||◌, nat_lt, [], List, Some, IfOk, IfErr, IfSome, OnOk, IsTrue, Contains, true, false, ℕ, length, vec_len};
+ghost use Rattle.std.specs.Prelude.{◌≡◌, ◌+◌, ◌⊎◌, ◌<◌, ◌≤◌, ◌^◌, ◌++◌, ◌∷◌, ◌||◌, nat_lt, [], List, Some, IfOk, IfErr, IfSome, OnOk, OnErr, IsTrue, Contains, true, false, ℕ, length, vec_len};
 ghost use Rattle.uring_base.specs.declared.events.Taken.{Taken};
 ghost use Rattle.uring_base.specs.Causes.{HasCause};
 ghost use Rattle.uring_model.specs.Moves.{posted};
-ghost use Rattle.ring_traits.specs.Lists.{Lists, Becomes, small};
+ghost use Rattle.ring_traits.specs.Lists.{Lists, Becomes, as_offered};
 ghost use Rattle.run_loop.specs.Rounds.{pushed_more, IsCalm, PlacesGoOn, Round, engine_fault, is_partner_fault};
+ghost use Rattle.run_loop.specs.UserRounds.{UserSent};
 ghost use Rattle.uring_model.specs.Jobs.{model_job, is_valid_job};
 ghost use Rattle.run_loop.specs.Entries.{all_taken, job_entry, job_loan, offer_of};
 ghost use Rattle.run_loop.specs.Flights.{IsAhead, IsSettled, AreOperated, AreReplied, NoneResolved, jobs_in_flight};
@@ -34,8 +35,8 @@ fn start<R: UserEnds>(
     requires ahead { IsAhead table.old.started table.old.slots.items (offer_of next.number next.job) }
     requires room { 0 < R.room engine.old.ring }
     requires inside { table.old.started < vec_len table.old.slots }
-    ensures uses { OnOk result (R.used engine.old.ring (small (job_entry next.number next.job) (job_loan next.number next.job.kind) ∷ []) [] engine.new.ring) }
-    ensures told { OnOk result (Becomes (R.lists engine.old.ring) (pushed_more (small (job_entry next.number next.job) (job_loan next.number next.job.kind) ∷ [])) (R.lists engine.new.ring)) }
+    ensures uses { OnOk result (R.used engine.old.ring (as_offered R.offers_large (job_entry next.number next.job) (job_loan next.number next.job.kind) ∷ []) [] engine.new.ring) }
+    ensures told { OnOk result (Becomes (R.lists engine.old.ring) (pushed_more (as_offered R.offers_large (job_entry next.number next.job) (job_loan next.number next.job.kind) ∷ [])) (R.lists engine.new.ring)) }
     ensures room { OnOk result (R.room engine.old.ring ≡ R.room engine.new.ring + 1) }
     ensures waiting { OnOk result (R.waiting engine.new.ring ≡ R.waiting engine.old.ring) }
     ensures operated { OnOk result (AreOperated engine.new.ops table.new.started table.new.slots.items (jobs_in_flight table.new.in_flight.items)) }
@@ -44,6 +45,7 @@ fn start<R: UserEnds>(
     ensures started { OnOk result (table.new.started ≡ table.old.started + 1) }
     ensures slots { table.new.slots.items ≡ table.old.slots.items }
     ensures memory { IfErr result (λ e. e ≡ RunFault.NoMemory) }
+    ensures lacking { OnErr result (UserSent R.used engine.old.ring engine.new.ring (as_offered R.offers_large (job_entry next.number next.job) (job_loan next.number next.job.kind) ∷ [])) }
 {
     let op = start_job(alloc, engine, next.number, next.job)?;
     match table.start(op) {
@@ -61,7 +63,7 @@ pub fn start_some<R: UserEnds>(
 ) -> Result<(), RunFault>
     requires inside { table.old.started + length todo.old ≤ vec_len table.old.slots }
     requires settled { IsSettled engine.old.ops table.old.started table.old.slots.items table.old.in_flight.items todo.old }
-    ensures offered { OnOk result ((ts : List Taken) × (all_taken todo.old ≡ ts ++ all_taken todo.new)
+    ensures offered { OnOk result ((ts : List Taken) × (all_taken todo.old R.offers_large ≡ ts ++ all_taken todo.new R.offers_large)
         × R.used engine.old.ring ts [] engine.new.ring
         × Becomes (R.lists engine.old.ring) (pushed_more ts) (R.lists engine.new.ring)
         × (R.room engine.old.ring ≡ R.room engine.new.ring + length ts)
@@ -72,6 +74,7 @@ pub fn start_some<R: UserEnds>(
     ensures waiting { OnOk result (R.waiting engine.new.ring ≡ R.waiting engine.old.ring) }
     ensures settled { OnOk result (IsSettled engine.new.ops table.new.started table.new.slots.items table.new.in_flight.items todo.new) }
     ensures memory { IfErr result (λ e. e ≡ RunFault.NoMemory) }
+    ensures lacking { OnErr result (UserSent R.used engine.old.ring engine.new.ring (all_taken todo.old R.offers_large)) }
 {
     'starts: while engine.free() > 0 {
         let Some(next) = todo.pop_front() else {
@@ -113,13 +116,13 @@ pub fn round<R: UserEnds + PartnerSide, P: Partner>(
     requires calm { (l : Lists) × (R.lists engine.old.ring ≡ Some l) × IsCalm l (R.room engine.old.ring) }
     requires inside { table.old.started + length todo.old ≤ vec_len table.old.slots }
     requires settled { IsSettled engine.old.ops table.old.started table.old.slots.items table.old.in_flight.items todo.old }
-    ensures round { OnOk result ((r : Round P.machine P.log P.state R.lists R.kept partner.old partner.new engine.old.ring engine.new.ring (all_taken todo.old) (all_taken todo.new) table.new.started table.old.slots.items table.new.slots.items result)
+    ensures round { OnOk result ((r : Round P.machine P.log P.state R.lists R.kept partner.old partner.new engine.old.ring engine.new.ring (all_taken todo.old R.offers_large) (all_taken todo.new R.offers_large) table.new.started table.old.slots.items table.new.slots.items result)
         × PlacesGoOn R.offer_place R.reap_place engine.old.ring engine.new.ring (length r.ts) (length (posted r.ms))) }
     ensures inside { OnOk result (table.new.started + length todo.new ≡ table.old.started + length todo.old) }
     ensures calm { IfOk result (λ _. (l : Lists) × (R.lists engine.new.ring ≡ Some l) × IsCalm l (R.room engine.new.ring)) }
     ensures settled { OnOk result (IsSettled engine.new.ops table.new.started table.new.slots.items table.new.in_flight.items todo.new) }
     ensures err { IfErr result (λ e. ((e ≡ RunFault.NoMemory) × (partner.new ≡ partner.old))
-        ⊎ (Round P.machine P.log P.state R.lists R.kept partner.old partner.new engine.old.ring engine.new.ring (all_taken todo.old) (all_taken todo.new) table.new.started table.old.slots.items table.new.slots.items result
+        ⊎ (Round P.machine P.log P.state R.lists R.kept partner.old partner.new engine.old.ring engine.new.ring (all_taken todo.old R.offers_large) (all_taken todo.new R.offers_large) table.new.started table.old.slots.items table.new.slots.items result
         × (table.new.started + length todo.new ≡ table.old.started + length todo.old))) }
     ensures cause { HasCause is_partner_fault (P.faults partner.old) (P.faults partner.new) result }
     ensures planned { IfSome (P.state partner.old) (λ _. IfErr result (λ e. IsTrue (is_partner_fault e) → Contains (P.plan partner.old) 1)) }

@@ -13,6 +13,7 @@ ghost use Rattle.run_loop.specs.Rounds.{IsCalm, is_partner_fault, is_refusal};
 ghost use Rattle.run_loop.specs.Slots.{count_open};
 ghost use Rattle.run_loop.specs.declared.slot.Slot.{Slot};
 ghost use Rattle.run_loop.specs.Runs.{RunSays, PlacesRanOn, IsValidRun, report_in, refusal};
+ghost use Rattle.run_loop.specs.Turns.{RanInTurns};
 
 use crate::drive::drive;
 use crate::entries::first_bad_job;
@@ -48,7 +49,7 @@ fn journal_since<P: Partner>(
 
 /// The outcomes of a table in which each job has one, and the events that the log has from
 /// `start` on.
-fn report_of<P: Partner>(
+pub fn report_of<P: Partner>(
     alloc: Global,
     table: JobTable,
     partner: &P,
@@ -85,6 +86,7 @@ pub fn run_on<R: UserEnds + PartnerSide + Drop, P: Partner>(
     requires valid { AllValid jobs.items }
     requires in_range { AllInRange jobs.items }
     ensures says { RunSays P.machine P.view P.Plain P.log P.state partner.old partner.new jobs.items (R.entries_fit ring) idle (report_in result) }
+    ensures turns { OnOk result (IfSome (P.state partner.old) (λ a. RanInTurns P.machine P.Plain P.log (R.entries_fit ring) (R.completions_fit ring) a partner.old partner.new)) }
     ensures places { IfOk result (λ ran. PlacesRanOn R.offer_place R.reap_place P.log partner.old ring ran.1 (length jobs.items) ran.0.journal.items) }
     ensures cause { HasCause is_partner_fault (P.faults partner.old) (P.faults partner.new) result }
     ensures unplanned { IfSome (P.state partner.old) (λ _. P.plan partner.old ≡ [] → IfErr result (λ e. is_partner_fault e ≡ false)) }
@@ -105,7 +107,7 @@ pub fn run_on<R: UserEnds + PartnerSide + Drop, P: Partner>(
 }
 
 /// The parameters of rings of these sizes, as a builder gives them without other options.
-fn parameters_of(sq: u32, cq: u32) -> Result<Parameters, SetupError>
+pub fn parameters_of(sq: u32, cq: u32) -> Result<Parameters, SetupError>
     ensures ok { IfOk result (λ parameters. (is_valid_size sq cq ≡ true) × (told_entries parameters ≡ rounded_up sq) × (told_completions parameters ≡ rounded_up cq)) }
     ensures sizes { IfOk result (λ parameters. (is_ring_size (told_entries parameters) ≡ true) × (is_ring_size (told_completions parameters) ≡ true) × (told_entries parameters ≤ MAX_ENTRIES)) }
     ensures err { IfErr result (λ _. is_valid_size sq cq ≡ false) }
@@ -134,6 +136,7 @@ pub fn run_jobs<P: Partner>(
 ) -> Result<Report, RunFault>
     requires { 0 < idle }
     ensures refused { IfSome (refusal sq cq jobs.items) (λ fault. (result ≡ Err fault) × (partner.new ≡ partner.old)) }
+    ensures turns { OnOk result (IfSome (P.state partner.old) (λ a. RanInTurns P.machine P.Plain P.log (rounded_up sq) (rounded_up cq) a partner.old partner.new)) }
     ensures run { IsValidRun sq cq jobs.items → RunSays P.machine P.view P.Plain P.log P.state partner.old partner.new jobs.items (rounded_up sq) idle result }
     ensures cause { HasCause is_partner_fault (P.faults partner.old) (P.faults partner.new) result }
     ensures unplanned { IfSome (P.state partner.old) (λ _. P.plan partner.old ≡ [] → IfErr result (λ e. is_partner_fault e ≡ false)) }

@@ -1,10 +1,10 @@
 //! How a job's operation is started.
 
-ghost use Rattle.std.specs.Prelude.{◌≡◌, ◌+◌, ◌<◌, ◌≤◌, ◌^◌, ◌∷◌, [], ℕ, Some, None, is_some, true, false, IfOk, IfErr, OnOk, length};
+ghost use Rattle.std.specs.Prelude.{◌≡◌, ◌+◌, ◌<◌, ◌≤◌, ◌^◌, ◌∷◌, [], ℕ, Some, None, is_some, true, false, IfOk, IfErr, OnOk, OnErr, length};
 ghost use Rattle.uring_base.specs.FlagBits.{bits_in};
 ghost use Rattle.uring_model.specs.declared.jobs.JobKind.{JobKind};
 ghost use Rattle.uring_model.specs.Jobs.{model_job, is_valid_job, is_valid_at};
-ghost use Rattle.ring_traits.specs.Lists.{Becomes, small};
+ghost use Rattle.ring_traits.specs.Lists.{Becomes};
 ghost use Rattle.rent_table.specs.Ops.{knows, started};
 ghost use Rattle.run_loop.specs.Entries.{job_words, job_loan, job_entry, offer_of};
 ghost use Rattle.run_loop.specs.Rounds.{pushed_more};
@@ -67,8 +67,9 @@ fn start_read<R: UserEnds>(
     requires unknown { knows engine.old.ops number ≡ false }
     requires room { 0 < R.room engine.old.ring }
     requires valid { is_valid_at offset buf ≡ true }
-    ensures begun { IfOk result (λ op. IsBegun R.used R.lists R.room R.waiting number (JobKind.Read file offset buf) false (bits_in marks) engine.old.ring engine.new.ring engine.old.ops engine.new.ops op) }
+    ensures begun { IfOk result (λ op. IsBegun R.offers_large R.used R.lists R.room R.waiting number (JobKind.Read file offset buf) false (bits_in marks) engine.old.ring engine.new.ring engine.old.ops engine.new.ops op) }
     ensures memory { IfErr result (λ e. e ≡ RunFault.NoMemory) }
+    ensures unused { OnErr result (R.used engine.old.ring [] [] engine.new.ring) }
 {
     let read = File::of_number(file).read_at(buf, offset);
     let mut read = read.with_number(number).with_flags(marks);
@@ -90,8 +91,9 @@ fn start_write<R: UserEnds>(
     requires unknown { knows engine.old.ops number ≡ false }
     requires room { 0 < R.room engine.old.ring }
     requires valid { is_valid_at offset buf ≡ true }
-    ensures begun { IfOk result (λ op. IsBegun R.used R.lists R.room R.waiting number (JobKind.Write file offset buf) false (bits_in marks) engine.old.ring engine.new.ring engine.old.ops engine.new.ops op) }
+    ensures begun { IfOk result (λ op. IsBegun R.offers_large R.used R.lists R.room R.waiting number (JobKind.Write file offset buf) false (bits_in marks) engine.old.ring engine.new.ring engine.old.ops engine.new.ops op) }
     ensures memory { IfErr result (λ e. e ≡ RunFault.NoMemory) }
+    ensures unused { OnErr result (R.used engine.old.ring [] [] engine.new.ring) }
 {
     let write = File::of_number(file).write_at(buf, offset);
     let mut write = write.with_number(number).with_flags(marks);
@@ -110,8 +112,9 @@ fn start_sync<R: UserEnds>(
 ) -> Result<JobOp, RunFault>
     requires unknown { knows engine.old.ops number ≡ false }
     requires room { 0 < R.room engine.old.ring }
-    ensures begun { IfOk result (λ op. IsBegun R.used R.lists R.room R.waiting number (JobKind.Fsync file) false (bits_in marks) engine.old.ring engine.new.ring engine.old.ops engine.new.ops op) }
+    ensures begun { IfOk result (λ op. IsBegun R.offers_large R.used R.lists R.room R.waiting number (JobKind.Fsync file) false (bits_in marks) engine.old.ring engine.new.ring engine.old.ops engine.new.ops op) }
     ensures memory { IfErr result (λ e. e ≡ RunFault.NoMemory) }
+    ensures unused { OnErr result (R.used engine.old.ring [] [] engine.new.ring) }
 {
     let sync = File::of_number(file).sync_all();
     let mut sync = sync.with_number(number).with_flags(marks);
@@ -131,8 +134,9 @@ fn start_plain<R: UserEnds>(
     requires unknown { knows engine.old.ops number ≡ false }
     requires room { 0 < R.room engine.old.ring }
     requires plain { reply_for kind ≡ replies.Plain }
-    ensures begun { IfOk result (λ op. IsBegun R.used R.lists R.room R.waiting number kind false (bits_in marks) engine.old.ring engine.new.ring engine.old.ops engine.new.ops op) }
+    ensures begun { IfOk result (λ op. IsBegun R.offers_large R.used R.lists R.room R.waiting number kind false (bits_in marks) engine.old.ring engine.new.ring engine.old.ops engine.new.ops op) }
     ensures memory { IfErr result (λ e. e ≡ RunFault.NoMemory) }
+    ensures unused { OnErr result (R.used engine.old.ring [] [] engine.new.ring) }
 {
     let words = bare_words(kind);
     match engine.start(alloc, number, words.flags(marks), 0, None) {
@@ -156,8 +160,9 @@ fn start_quiet<R: UserEnds>(
     requires valid { is_valid_job false (model_job job) ≡ true }
     requires quiet { job.quiet ≡ true }
     requires bound { number + 1 < 2 ^ 64 }
-    ensures begun { IfOk result (λ op. IsBegun R.used R.lists R.room R.waiting number job.kind true (mark_bits job.drain job.link) engine.old.ring engine.new.ring engine.old.ops engine.new.ops op) }
+    ensures begun { IfOk result (λ op. IsBegun R.offers_large R.used R.lists R.room R.waiting number job.kind true (mark_bits job.drain job.link) engine.old.ring engine.new.ring engine.old.ops engine.new.ops op) }
     ensures memory { IfErr result (λ e. e ≡ RunFault.NoMemory) }
+    ensures unused { OnErr result (R.used engine.old.ring [] [] engine.new.ring) }
 {
     let marks = marks(job.drain, job.link);
     let reply = reply_for(&job.kind);
@@ -183,8 +188,9 @@ pub fn start_job<R: UserEnds>(
     requires room { 0 < R.room engine.old.ring }
     requires valid { is_valid_job false (model_job job) ≡ true }
     requires bound { number + 1 < 2 ^ 64 }
-    ensures begun { IfOk result (λ op. IsBegun R.used R.lists R.room R.waiting number job.kind job.quiet (mark_bits job.drain job.link) engine.old.ring engine.new.ring engine.old.ops engine.new.ops op) }
+    ensures begun { IfOk result (λ op. IsBegun R.offers_large R.used R.lists R.room R.waiting number job.kind job.quiet (mark_bits job.drain job.link) engine.old.ring engine.new.ring engine.old.ops engine.new.ops op) }
     ensures memory { IfErr result (λ e. e ≡ RunFault.NoMemory) }
+    ensures unused { OnErr result (R.used engine.old.ring [] [] engine.new.ring) }
 {
     if job.quiet {
         return start_quiet(alloc, engine, number, job);

@@ -4,7 +4,7 @@ ghost use Rattle.std.specs.Prelude.{◌≡◌, ◌+◌, ◌⊎◌, ◌≤◌, tr
 ghost use Rattle.run_loop.specs.Entries.{all_taken};
 ghost use Rattle.run_loop.specs.Flights.{IsSettled};
 ghost use Rattle.run_loop.specs.Rounds.{is_stranger_fault};
-ghost use Rattle.run_loop.specs.UserRounds.{UserRound};
+ghost use Rattle.run_loop.specs.UserRounds.{UserRound, UserSent};
 
 use crate::job_table::JobTable;
 use crate::offers::OfferQueue;
@@ -25,12 +25,12 @@ pub fn user_round<R: UserEnds>(
 ) -> Result<bool, RunFault>
     requires inside { table.old.started + length todo.old ≤ vec_len table.old.slots }
     requires settled { IsSettled engine.old.ops table.old.started table.old.slots.items table.old.in_flight.items todo.old }
-    ensures round { OnOk result (UserRound R.used R.room R.waiting engine.old.ring engine.new.ring (all_taken todo.old) (all_taken todo.new) table.old.started table.new.started table.old.slots.items table.new.slots.items result) }
+    ensures round { OnOk result (UserRound R.used R.room R.waiting engine.old.ring engine.new.ring (all_taken todo.old R.offers_large) (all_taken todo.new R.offers_large) table.old.started table.new.started table.old.slots.items table.new.slots.items result) }
     ensures inside { OnOk result (table.new.started + length todo.new ≡ table.old.started + length todo.old) }
     ensures settled { OnOk result (IsSettled engine.new.ops table.new.started table.new.slots.items table.new.in_flight.items todo.new) }
-    ensures err { IfErr result (λ e. (e ≡ RunFault.NoMemory)
+    ensures err { IfErr result (λ e. ((e ≡ RunFault.NoMemory) × UserSent R.used engine.old.ring engine.new.ring (all_taken todo.old R.offers_large))
         ⊎ ((is_stranger_fault e ≡ true)
-        × UserRound R.used R.room R.waiting engine.old.ring engine.new.ring (all_taken todo.old) (all_taken todo.new) table.old.started table.new.started table.old.slots.items table.new.slots.items result)) }
+        × UserRound R.used R.room R.waiting engine.old.ring engine.new.ring (all_taken todo.old R.offers_large) (all_taken todo.new R.offers_large) table.old.started table.new.started table.old.slots.items table.new.slots.items result)) }
 {
     start_some(alloc, engine, todo, table)?;
     let report = match engine.pump(alloc) {

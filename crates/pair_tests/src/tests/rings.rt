@@ -33,6 +33,7 @@ fn answer(number: u64) -> Completion {
         result: 0,
         flags: 0,
         big: [5; 2],
+        large: true,
         loan: None,
     }
 }

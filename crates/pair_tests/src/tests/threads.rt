@@ -91,6 +91,7 @@ fn post_answer(pair: &SharedPair, ends: &mut PartnerEnds<'_>, number: u64) -> bo
         result: 0,
         flags: 0,
         big: [0; 2],
+        large: false,
         loan: None,
     };
     ends.post(completion).is_ok()

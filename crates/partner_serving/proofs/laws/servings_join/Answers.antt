@@ -3,6 +3,6 @@ use Rattle.partner_serving.proofs.laws.servings_join.Goals as goal
 
 pub returns : goal.returns
 returns g c = record {
-  join = servings_join g.P.Partner.machine c.moves_join.ensures.join c.world_laws.ensures.join;
-  none = no_round_serves g.P.Partner.machine c.moves_join.ensures.none c.world_laws.ensures.stay;
+  join = servings_join g.P.Partner.machine g.P.Partner.view g.P.Partner.Plain c.world_laws.ensures c.moves_join.ensures.join;
+  none = no_round_serves g.P.Partner.machine g.P.Partner.view g.P.Partner.Plain c.world_laws.ensures c.moves_join.ensures.none;
 }

@@ -20,8 +20,8 @@ returns-in-Err-clause-err g c =
     let ends = fault_by c.start_some.new.table.started slots slots (jobs_in_flight c.start_some.new.table.in_flight.items) c.start_some.new.engine.ops c.turn.new.self.ops (took t.submitted.enters.moves) d.cs d.went.after.completions posts _ c.in-Err.fault s.settled.operated s.settled.none
     (posts_are g.R.Rings.kept a t.submitted.enters.moves d.cs d.went.after.completions c.requires.calm.2.completions d.went.posts) d.ended in
     inr (
-      round_of _ _ _ _ _ _ g.R.Rings.kept _ _ _ _ _ g.met.R.PartnerSide.moved_told g.R.Rings.fits _ _ _ _ _ _ _ _ _ _ _ t a p.0 c.requires.calm.1 p.3 c.turn.new.self.ring refl c.requires.calm.2 (all_taken c.args.todo.now) (all_taken c.start_some.new.todo) p.1 p.4
-          (elim s.full [ inl e ↦ inl (ap all_taken e) | inr z ↦ inr z ]) c.start_some.new.table.started c.args.table.now.slots.items slots _
+      round_of _ _ _ _ _ _ g.R.Rings.kept _ _ _ _ _ g.met.R.PartnerSide.moved_told g.R.Rings.fits _ _ _ _ _ _ _ _ _ _ _ t a p.0 c.requires.calm.1 p.3 c.turn.new.self.ring refl c.requires.calm.2 (all_taken c.args.todo.now g.R.UserEnds.offers_large) (all_taken c.start_some.new.todo g.R.UserEnds.offers_large) p.1 p.4
+          (elim s.full [ inl e ↦ inl (ap (λ l. all_taken l g.R.UserEnds.offers_large) e) | inr z ↦ inr z ]) c.start_some.new.table.started c.args.table.now.slots.items slots _
           (subst (λ e. RoundEnds c.start_some.new.table.started c.args.table.now.slots.items (took t.submitted.enters.moves) posts slots (is_ok t.answer) (Err e)) (sym c.as_run_fault.ensures)
           (subst (λ x. RoundEnds c.start_some.new.table.started x (took t.submitted.enters.moves) posts slots (is_ok t.answer) (Err (engine_fault c.in-Err.fault))) s.slots ends)),
       s.inside,
@@ -41,8 +41,8 @@ returns-then-is_err-clause-err g c =
     let s = c.in_ok-start_some.ensures in
     let p = s.offered in
     inr (
-      round_of _ _ _ _ _ _ g.R.Rings.kept _ _ _ _ _ g.met.R.PartnerSide.moved_told g.R.Rings.fits _ _ _ _ _ _ _ _ _ _ _ c.in-Ok.ensures.turned a p.0 c.requires.calm.1 p.3 c.poll_all.new.engine.ring c.poll_all.ensures.lists c.requires.calm.2 (all_taken c.args.todo.now) (all_taken c.start_some.new.todo) p.1 p.4
-          (elim s.full [ inl e ↦ inl (ap all_taken e) | inr z ↦ inr z ]) c.poll_all.new.self.started c.args.table.now.slots.items c.poll_all.new.self.slots.items (Err faults.NoMemory) (tt, λ bad. let e : false ≡ true = bad in cc),
+      round_of _ _ _ _ _ _ g.R.Rings.kept _ _ _ _ _ g.met.R.PartnerSide.moved_told g.R.Rings.fits _ _ _ _ _ _ _ _ _ _ _ c.in-Ok.ensures.turned a p.0 c.requires.calm.1 p.3 c.poll_all.new.engine.ring c.poll_all.ensures.lists c.requires.calm.2 (all_taken c.args.todo.now g.R.UserEnds.offers_large) (all_taken c.start_some.new.todo g.R.UserEnds.offers_large) p.1 p.4
+          (elim s.full [ inl e ↦ inl (ap (λ l. all_taken l g.R.UserEnds.offers_large) e) | inr z ↦ inr z ]) c.poll_all.new.self.started c.args.table.now.slots.items c.poll_all.new.self.slots.items (Err faults.NoMemory) (tt, λ bad. let e : false ≡ true = bad in cc),
       ap (λ n. n + length c.start_some.new.todo) c.poll_all.ensures.started ∙ s.inside,
     )
 
@@ -58,8 +58,8 @@ returns-clause-round g c =
     let places = round_places _ _ _ _ _ _ g.R.Rings.kept _ _ _ _ _ g.met.R.PartnerSide.moved_told g.R.Rings.fits _ _ _ _ _ _ _ _ _ _ _ t a p.0 c.requires.calm.1 p.3 g.R.Rings.offer_place g.R.Rings.reap_place g.met.R.UserEnds.used_places g.met.R.PartnerSide.moved_places p.2 c.poll_all.new.engine.ring c.poll_all.ensures.uses c.in-Ok.report refl c.requires.calm.2.completions c.in-Ok.ensures.none_left in
     let reaps = landed_ends c.start_some.new.table.started c.start_some.new.table.slots.items (jobs_in_flight c.start_some.new.table.in_flight.items) posts c.turn.new.self.ops l.landed
     c.poll_all.new.self.started c.args.table.now.slots.items c.poll_all.new.self.slots.items c.goes_on.result c.poll_all.ensures.started (sym s.slots) (once_ok c.poll_all.result _ (sym c.if-is_err.ensures.value) c.poll_all.ensures.slots) in
-    placed_round _ _ _ _ _ _ g.R.Rings.kept _ _ _ _ _ g.met.R.PartnerSide.moved_told g.R.Rings.fits _ _ _ _ _ _ _ _ _ _ _ t a p.0 c.requires.calm.1 p.3 g.R.Rings.offer_place g.R.Rings.reap_place c.poll_all.new.engine.ring c.poll_all.ensures.lists c.requires.calm.2 (all_taken c.args.todo.now) (all_taken c.start_some.new.todo) p.1 p.4
-    (elim s.full [ inl e ↦ inl (ap all_taken e) | inr z ↦ inr z ]) c.poll_all.new.self.started c.args.table.now.slots.items c.poll_all.new.self.slots.items (Ok c.goes_on.result) (reaps, subst (λ b. IsEntered (took t.submitted.enters.moves) posts (is_ok t.answer) (Ok b)) (sym c.goes_on.ensures) l.enters) places
+    placed_round _ _ _ _ _ _ g.R.Rings.kept _ _ _ _ _ g.met.R.PartnerSide.moved_told g.R.Rings.fits _ _ _ _ _ _ _ _ _ _ _ t a p.0 c.requires.calm.1 p.3 g.R.Rings.offer_place g.R.Rings.reap_place c.poll_all.new.engine.ring c.poll_all.ensures.lists c.requires.calm.2 (all_taken c.args.todo.now g.R.UserEnds.offers_large) (all_taken c.start_some.new.todo g.R.UserEnds.offers_large) p.1 p.4
+    (elim s.full [ inl e ↦ inl (ap (λ l. all_taken l g.R.UserEnds.offers_large) e) | inr z ↦ inr z ]) c.poll_all.new.self.started c.args.table.now.slots.items c.poll_all.new.self.slots.items (Ok c.goes_on.result) (reaps, subst (λ b. IsEntered (took t.submitted.enters.moves) posts (is_ok t.answer) (Ok b)) (sym c.goes_on.ensures) l.enters) places
 
 pub returns-clause-calm : goal.returns-clause-calm
 returns-clause-calm g c =

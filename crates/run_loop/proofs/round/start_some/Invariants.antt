@@ -9,7 +9,7 @@ use Rattle.run_loop.proofs.round.start_some.Given as goal
 -- what was offered so far
 abbrev pub invariant-starts : goal.invariant-starts
 invariant-starts g l =
-    (ts : List Taken) × (all_taken l.initial.todo ≡ ts ++ all_taken l.todo)
+    (ts : List Taken) × (all_taken l.initial.todo g.R.UserEnds.offers_large ≡ ts ++ all_taken l.todo g.R.UserEnds.offers_large)
     × (l.table.started + length l.todo ≡ l.initial.table.started + length l.initial.todo)
     × g.R.UserEnds.used l.initial.engine.ring ts [] l.engine.ring
     × Becomes (g.R.Rings.lists l.initial.engine.ring) (pushed_more ts) (g.R.Rings.lists l.engine.ring)

@@ -24,7 +24,16 @@ returns-in-Err-clause-err g c =
     let slots = c.start_some.new.table.slots.items in
     let ends = fault_ends c.start_some.new.table.started slots slots (jobs_in_flight c.start_some.new.table.in_flight.items) c.start_some.new.engine.ops c.pump.new.self.ops d.completions [] c.in-Err.fault s.settled.operated s.settled.none d.completed in
     elim (one_of_two c.in-Err.fault c.in-Err.ensures.faults) [
-      | inl e ↦ inl (c.as_run_fault.ensures ∙ e)
+      | inl e ↦ inl (
+        c.as_run_fault.ensures ∙ e,
+        record {
+          offered = p.0;
+          rest = all_taken c.start_some.new.todo g.R.UserEnds.offers_large;
+          reaped = d.completions;
+          uses = offers_reaps g.R.UserEnds.used g.met.R.UserEnds.used_then _ _ _ _ _ p.2 d.uses;
+          entries = p.1;
+        },
+      )
       | inr e ↦ inr (
         ap is_stranger_fault c.as_run_fault.ensures ∙ e,
         record {
@@ -32,7 +41,7 @@ returns-in-Err-clause-err g c =
           cs = d.completions;
           uses = offers_reaps g.R.UserEnds.used g.met.R.UserEnds.used_then _ _ _ _ _ p.2 d.uses;
           offered = p.1;
-          full = elim s.full [ inl e ↦ inl (ap all_taken e) | inr z ↦ inr (c.start_some.new.engine.ring, p.2, z, d.uses) ];
+          full = elim s.full [ inl e ↦ inl (ap (λ l. all_taken l g.R.UserEnds.offers_large) e) | inr z ↦ inr (c.start_some.new.engine.ring, p.2, z, d.uses) ];
           starts = p.5;
           ends = rw c.as_run_fault.ensures
               (subst (λ l. ReapEnds c.start_some.new.table.started c.args.table.now.slots.items l slots (Err (engine_fault c.in-Err.fault))) (append-nil d.completions)
@@ -41,6 +50,23 @@ returns-in-Err-clause-err g c =
         },
       )
     ]
+
+-- memory lacked for a poll
+pub returns-then-is_err-clause-err : goal.returns-then-is_err-clause-err
+returns-then-is_err-clause-err g c =
+    let p = c.in_ok-start_some.ensures.offered in
+    let d = c.in-Ok.ensures.pumped.0 in
+    let reaps = reaps_polls g.R.UserEnds.used g.met.R.UserEnds.used_then _ _ _ _ d.uses c.poll_all.ensures.uses in
+    inl (
+      refl,
+      record {
+        offered = p.0;
+        rest = all_taken c.start_some.new.todo g.R.UserEnds.offers_large;
+        reaped = d.completions;
+        uses = offers_reaps g.R.UserEnds.used g.met.R.UserEnds.used_then _ _ _ _ _ p.2 reaps;
+        entries = p.1;
+      },
+    )
 
 pub poll_all-requires-clause-operated : goal.poll_all-requires-clause-operated
 poll_all-requires-clause-operated g c =
@@ -59,7 +85,7 @@ returns-clause-round g c =
       cs = d.0.completions;
       uses = offers_reaps g.R.UserEnds.used g.met.R.UserEnds.used_then _ _ _ _ _ p.2 reaps;
       offered = p.1;
-      full = elim s.full [ inl e ↦ inl (ap all_taken e) | inr z ↦ inr (c.start_some.new.engine.ring, p.2, z, reaps) ];
+      full = elim s.full [ inl e ↦ inl (ap (λ l. all_taken l g.R.UserEnds.offers_large) e) | inr z ↦ inr (c.start_some.new.engine.ring, p.2, z, reaps) ];
       starts = c.poll_all.ensures.started ∙ p.5;
       ends = landed_ends _ _ _ _ _ l c.poll_all.new.self.started c.args.table.now.slots.items c.poll_all.new.self.slots.items (nat_lt 0 c.in-Ok.report.finals) c.poll_all.ensures.started (sym s.slots) (once_ok c.poll_all.result _ (sym c.if-is_err.ensures.value) c.poll_all.ensures.slots);
       reaps = (sym (any_by_count d.0.completions c.in-Ok.report.finals d.1.1), c.poll_all.ensures.waiting ∙ c.in-Ok.ensures.none_left);

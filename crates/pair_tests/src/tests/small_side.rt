@@ -1,6 +1,6 @@
 //! Rounds over a side that tells no lists, worked out by hand.
 
-use crate::serve_round;
+use partner_serving::serve_round;
 use partner_traits::{Partner, PartnerError};
 use ring_traits::{PartnerSide, Rings};
 use std::process::Abort;
@@ -107,6 +107,7 @@ fn nop(number: u64) -> Option<Taken> {
     Some(Taken {
         entry: Entry::blank(NOP).user_data(number),
         big: [0; 64],
+        large: false,
         loan: None,
     })
 }
