@@ -37,16 +37,16 @@ same_told : (x y : Told) → ◌≡◌ {A = Option Told} (Some x) (Some y) → x
 same_told x y e = cc
 
 -- the source told the script's text, so this is the script that was read
-told_is : (left left' : Option (List ℕ)) (taken taken' : ℕ) (text : List ℕ) (told other : Told) → GaveScript left left' taken taken' told → left ≡ Some text → script_of (lines_of text) ≡ Some other → other ≡ told
+pub told_is : (left left' : Option (List ℕ)) (taken taken' : ℕ) (text : List ℕ) (told other : Told) → GaveScript left left' taken taken' told → left ≡ Some text → script_of (lines_of text) ≡ Some other → other ≡ told
 told_is left left' taken taken' text told other gave tells script =
     let all = subst (λ l. ReadsAll l left' gave.bytes) tells gave.whole.all in
     same_told other told (sym script ∙ ap (λ b. script_of (lines_of b)) (sym all.0) ∙ gave.script)
 
-nothing_refused : (options : Options) (told : Told) → IsValidRun options.sq options.cq told.jobs → refusal options.sq options.cq told.jobs ≡ None
+pub nothing_refused : (options : Options) (told : Told) → IsValidRun options.sq options.cq told.jobs → refusal options.sq options.cq told.jobs ≡ None
 nothing_refused options told valid = rw valid.size (rw valid.jobs_valid refl)
 
 -- files that are put in leave a world plain
-plain_files : {W : Type 0} (put : ℕ → List ℕ → W → W) (Plain : W → Type 0) → ((number : ℕ) (bytes : List ℕ) (w : W) → Plain w → Plain (put number bytes w)) → (seeds : List Seed) (w : W) → Plain w → Plain (with_files put seeds w)
+pub plain_files : {W : Type 0} (put : ℕ → List ℕ → W → W) (Plain : W → Type 0) → ((number : ℕ) (bytes : List ℕ) (w : W) → Plain w → Plain (put number bytes w)) → (seeds : List Seed) (w : W) → Plain w → Plain (with_files put seeds w)
 plain_files put Plain keeps [] w h = h
 plain_files put Plain keeps (seed ∷ seeds) w h = plain_files put Plain keeps seeds (put seed.number seed.bytes w) (keeps seed.number seed.bytes w h)
 

@@ -27,7 +27,7 @@ valid_as sq cq jobs false bad size b e = absurd cc
 pub valid_where_none : (sq cq : ℕ) (jobs : List Job) → refusal sq cq jobs ≡ None → IsValidRun sq cq jobs
 valid_where_none sq cq jobs e = valid_as sq cq jobs (is_valid_size sq cq) (first_bad 0 jobs) refl refl e
 
-refused_as : (size : Bool) (bad : Option ℕ) (fault : RunFault) → (if size then option_map BadJob bad else Some BadSize) ≡ Some fault → is_refusal fault ≡ true
+pub refused_as : (size : Bool) (bad : Option ℕ) (fault : RunFault) → (if size then option_map BadJob bad else Some BadSize) ≡ Some fault → is_refusal fault ≡ true
 refused_as true None fault e = absurd cc
 refused_as true (Some n) fault e = cc
 refused_as false bad fault e = cc

@@ -5,3 +5,5 @@ pub mod Input
 pub mod Seeds
 pub mod Runs
 pub mod Ends
+pub mod SharedEnds
+pub mod Generated

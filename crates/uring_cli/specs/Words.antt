@@ -1,5 +1,5 @@
 -- The words of the command, as they are read: `run`, then options in any order, each a name and a number, and none twice.
-use Rattle.std.specs.Prelude.{ℕ, ◌+◌, ◌*◌, min, List, [], ◌∷◌, Option, Some, None, is_none, unwrap_or, option_map, bytes_eq, codes, nat_lt, ◌&&◌, if◌then◌else◌}
+use Rattle.std.specs.Prelude.{ℕ, ◌+◌, ◌*◌, min, Bool, false, List, [], ◌∷◌, Option, Some, None, is_none, unwrap_or, option_map, bytes_eq, codes, nat_lt, ◌&&◌, if◌then◌else◌}
 use Rattle.uring_text.specs.Lines.{number_below}
 use Rattle.uring_text.specs.Script.{◌>>=◌}
 use Rattle.uring_cli.specs.declared.words.Given.{Given}
@@ -40,3 +40,17 @@ in_force given = record {
 unfoldable pub options_of : List (List ℕ) → Option Options
 options_of [] = None
 options_of (word ∷ words) = if bytes_eq word (codes "run") then option_map in_force (given_by nothing_given words) else None
+
+-- the options of the command `shared`: those of `run` but `--idle`, since such a run isn't given up
+abbrev pub without_idle : Option Given → Option Options
+without_idle None = None
+without_idle (Some given) = if is_none given.idle then Some (in_force given) else None
+
+-- the first word is `shared`
+abbrev pub asks_for_threads : List (List ℕ) → Bool
+asks_for_threads [] = false
+asks_for_threads (name ∷ words) = bytes_eq name (codes "shared")
+
+unfoldable pub shared_options_of : List (List ℕ) → Option Options
+shared_options_of [] = None
+shared_options_of (word ∷ words) = if bytes_eq word (codes "shared") then without_idle (given_by nothing_given words) else None

@@ -72,7 +72,7 @@ pub fn seed_all<P: Seedable>(
 }
 
 /// The status of a partner that failed.
-fn status_after(error: PartnerError) -> Status
+pub(crate) fn status_after(error: PartnerError) -> Status
     ensures { result ≡ status_of (run_fault_of error) }
 {
     match error {

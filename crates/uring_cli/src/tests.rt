@@ -1,4 +1,7 @@
-use crate::{MemorySink, MemorySource, Status, Word, ring_main};
+mod generated;
+
+use crate::{MemorySink, MemorySource, Status, Word, ring_main, shared_main};
+use partner_serving::NoGate;
 use std::alloc::{AllocError, Global};
 use std::test::Fail;
 use uring_base::{Buf, Nums};
@@ -109,6 +112,7 @@ fn failures(rt: HostRuntime) -> Result<(), Fail> {
 fn refusals(rt: HostRuntime) -> Result<(), Fail> {
     for (line, script, wanted) in [
         ("", HELLO, Status::Usage),
+        ("gen 1", HELLO, Status::Usage),
         ("runs", HELLO, Status::Usage),
         ("run run", HELLO, Status::Usage),
         ("run --sq", HELLO, Status::Usage),
@@ -141,6 +145,54 @@ fn refusals(rt: HostRuntime) -> Result<(), Fail> {
         let (status, text) = called(rt.alloc(), line, script, &Fails::default())?;
         assert_eq!(rt; status, wanted, "{line}");
         assert!(rt; text.is_empty(), "{line}");
+    }
+    Ok(())
+}
+
+/// The statuses of a command whose partner has a thread of its own, what each wrote, and whether the
+/// partner comes back.
+#[test]
+fn on_two_threads(rt: HostRuntime) -> Result<(), Fail> {
+    let alloc = rt.alloc();
+    for (line, script, write, enter, wanted, written) in [
+        ("shared", HELLO, None, None, Status::Done, HELLO_REPORT),
+        (
+            "shared --sq 1",
+            QUIET,
+            None,
+            None,
+            Status::Done,
+            QUIET_REPORT,
+        ),
+        ("shared --idle 16", HELLO, None, None, Status::Usage, ""),
+        ("run", HELLO, None, None, Status::Usage, ""),
+        ("shared --sq 0", HELLO, None, None, Status::BadSize, ""),
+        ("shared", "nop\nno\n", None, None, Status::Script(2), ""),
+        (
+            "shared",
+            "nop quiet link\n",
+            None,
+            None,
+            Status::BadJob(0),
+            "",
+        ),
+        ("shared", HELLO, None, Some(1), Status::PartnerFault, ""),
+        ("shared", HELLO, Some(2), None, Status::WriteFault, "out "),
+    ] {
+        let words = words_of(alloc, line)?;
+        let bytes = Buf::from_slice(alloc, script.as_bytes())?;
+        let mut input = MemorySource::new(bytes, Nums::new(alloc));
+        let mut out = MemorySink::new(alloc, 4, nums(alloc, write)?);
+        let mut partner = MemoryPartner::new(alloc);
+        if let Some(enter) = enter {
+            partner.fail_enter(alloc, enter.max(1))?;
+        }
+        let (status, back) = shared_main(
+            &rt, alloc, &words, &mut input, &mut out, partner, &NoGate,
+        );
+        assert_eq!(rt; status, wanted, "{line}");
+        assert_eq!(rt; out.bytes(), written.as_bytes(), "{line}");
+        assert!(rt; back.is_some(), "{line}");
     }
     Ok(())
 }

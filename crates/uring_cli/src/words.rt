@@ -1,8 +1,8 @@
-//! The words of the command.
+//! The words of the command `run`.
 
 ghost use Rattle.std.specs.Prelude.{◌≡◌, ◌+◌, ◌<◌, ◌≤◌, IfSome};
 ghost use Rattle.uring_text.specs.Lines.{number_below};
-ghost use Rattle.uring_cli.specs.Words.{given_by, in_force, nothing_given, options_of, with_option};
+ghost use Rattle.uring_cli.specs.Words.{asks_for_threads, given_by, in_force, nothing_given, options_of, shared_options_of, with_option};
 
 use uring_base::Buf;
 use uring_text::number_to;
@@ -127,4 +127,31 @@ pub fn options_of(words: &[Word]) -> Option<Options>
     }
     let given = given_by(settings)?;
     Some(given.in_force())
+}
+
+/// The options of the command `shared`, where the words are its name and then options: those of
+/// `run` but `--idle`, since such a run isn't given up.
+#[tactic(auto, unfolding(crate::specs::Words::shared_options_of))]
+pub fn shared_options_of(words: &[Word]) -> Option<Options>
+    ensures { result ≡ shared_options_of words.now }
+{
+    let (name, settings) = words.split_first()?;
+    if name.as_slice() != b"shared".as_slice() {
+        return None;
+    }
+    let given = given_by(settings)?;
+    if given.idle.is_some() {
+        return None;
+    }
+    Some(given.in_force())
+}
+
+/// Whether the first word is `shared`.
+pub fn asks_for_threads(words: &[Word]) -> bool
+    ensures { result ≡ asks_for_threads words.now }
+{
+    match words.first() {
+        Some(name) => name.as_slice() == b"shared".as_slice(),
+        None => false,
+    }
 }

@@ -8,3 +8,4 @@ pub mod MarksSaid
 pub mod KindsSaid
 pub mod LinesSaid
 pub mod ScriptsSaid
+pub mod Decimals

@@ -1,6 +1,7 @@
 //! Texts: scripts, reports and statuses.
 #![tactic(auto)]
 
+mod digits;
 mod fields;
 mod jobs;
 mod laws;

@@ -4,7 +4,7 @@ ghost use Rattle.std.specs.Prelude.{◌≡◌, map, IfOk, false};
 ghost use Rattle.uring_model.specs.Jobs.{model_job, may_be_quiet};
 ghost use Rattle.uring_text.specs.Script.{file_line, choose_line, job_line, worded_line, line_says};
 
-use crate::fields::{bytes_of, fields_of, u32_of};
+use crate::fields::{bytes_of, cut, fields_of, u32_of};
 use crate::jobs::job_fields;
 use crate::marks::{Marks, marks_of};
 use crate::script::{Line, Seed};
@@ -95,6 +95,9 @@ pub fn line_says(alloc: Global, line: &[u8]) -> Result<Option<Line>, AllocError>
 {
     if line.is_empty() || line[0] == b'#' {
         return Ok(Some(Line::Blank));
+    }
+    if cut(line, b' ').is_none() {
+        return worded_line(alloc, &[line]);
     }
     let fields = fields_of(alloc, line)?;
     worded_line(alloc, &fields)

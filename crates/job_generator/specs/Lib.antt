@@ -1,0 +1,3 @@
+pub mod Generator
+pub mod Journal
+pub mod Laws
