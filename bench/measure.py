@@ -9,6 +9,8 @@ PROGRAM is the built program; without it, crates/uring_cli/out/uring_cli of this
   nop     jobs that do nothing
   bytes   three reads of 64 bytes for each write of 64 bytes, on one file of at most 4,160 bytes
 
+Each of the two with 262,144 jobs is run by `shared` too, whose partner has a thread of its own.
+
 Then 262,144 nops of which every second is quiet and linked to the next are run; the 262,144 nops are run
 with rings of 1, of 64 and of 32,768 entries; and three more kinds of scripts with rings of 64 and of
 4,096 entries:
@@ -22,6 +24,9 @@ million entries through a pair of rings of 64, and as many items through two deq
 crates/engine_speed/out/engine_speed: a million operations through an engine, in three ways; and
 crates/shared_speed/out/shared_speed: ten million entries to another thread and back through a pair of
 rings of 1,024, and as many items through two channels of that bound.
+
+The program's command `gen 100000` is run too, and, where crates/gen_speed/out/gen_speed is there, which `rt run`
+leaves there, as many of a number's jobs and four times as many by it, since the command takes no more.
 
 Each script is run N times (3, unless said), and the shortest time counts. A run that doesn't end with
 status 0, or whose report lacks a job or its end, stops the measuring with status 1. The goals are those of
@@ -44,11 +49,16 @@ GOAL_NOP_MICROSECONDS = 1.0
 GOAL_MEGABYTES = 400.0
 GOAL_RING_RATIO = 1.5
 GOAL_QUIET_RATIO = 1.2
+GOAL_SHARED_RATIO = 1.3
 GOAL_ENTRY_NANOSECONDS = 40.0
 GOAL_NUMBER_NANOSECONDS = 250.0
 GOAL_STATE_NANOSECONDS = 400.0
 GOAL_STATES_RATIO = 1.5
 GOAL_PAIR_NANOSECONDS = 60.0
+GOAL_GENERATED_MICROSECONDS = 1.3
+GOAL_GENERATED_MEGABYTES = 250.0
+
+GENERATED = 100_000
 
 PAIR_ITEMS = 10_000_000
 
@@ -110,13 +120,13 @@ def write_script(path, lines):
         sys.exit(f"measure.py: {path} has {size} bytes, more than the program takes")
 
 
-def run_once(program, options, script, report):
-    """Seconds and peak kilobytes of one run with these options, and its status."""
+def run_once(program, words, script, report):
+    """Seconds and peak kilobytes of one run with these words, and its status."""
     with open(script, "rb") as source, open(report, "wb") as out:
         begin = time.perf_counter()
         pid = os.posix_spawn(
             program,
-            [program, "run", *options],
+            [program, *words],
             {},
             file_actions=[
                 (os.POSIX_SPAWN_DUP2, source.fileno(), 0),
@@ -145,7 +155,7 @@ def check_report(report, jobs):
         sys.exit(f"measure.py: {outcomes} outcomes and {ends} ends for {jobs} jobs, last line {last!r}")
 
 
-def measure(program, folder, name, lines, jobs, runs, options=()):
+def measure(program, folder, name, lines, jobs, runs, options=(), command="run"):
     """The shortest time and the highest peak of some runs."""
     script = os.path.join(folder, f"{name}-{jobs}.script")
     report = os.path.join(folder, f"{name}-{jobs}.report")
@@ -153,7 +163,7 @@ def measure(program, folder, name, lines, jobs, runs, options=()):
     best = None
     peak = 0
     for _ in range(runs):
-        seconds, kilobytes, status = run_once(program, options, script, report)
+        seconds, kilobytes, status = run_once(program, (command, *options), script, report)
         if status != 0:
             sys.exit(f"measure.py: {name} with {jobs} jobs ended with status {status}")
         best = seconds if best is None else min(best, seconds)
@@ -178,6 +188,41 @@ def measure_quiet(program, folder, runs, nops):
         ratio <= GOAL_QUIET_RATIO,
         f"nops, every second quiet and linked: {ratio:.2f} times the time of as many nops (goal: at most {GOAL_QUIET_RATIO})",
     )
+
+
+def measure_shared(program, folder, name, lines, runs, alone):
+    """What the same script costs with the partner on a thread of its own, beside `run`, which took `alone` seconds."""
+    seconds, peak = measure(program, folder, name, lines, MANY, runs, command="shared")
+    print_row(f"shared {name}", MANY, seconds, peak)
+    ratio = seconds / alone
+    return judge(ratio <= GOAL_SHARED_RATIO, f"{name}: `shared` in {ratio:.2f} times the time of `run` (goal: at most {GOAL_SHARED_RATIO})")
+
+
+def measure_number(program, words, jobs, runs):
+    """The shortest time and the highest peak of some runs of a number's jobs, which read nothing."""
+    best = None
+    peak = 0
+    for _ in range(runs):
+        seconds, kilobytes, status = run_once(program, words, os.devnull, os.devnull)
+        if status != 0:
+            sys.exit(f"measure.py: {program} {' '.join(words)} ended with status {status}")
+        best = seconds if best is None else min(best, seconds)
+        peak = max(peak, kilobytes)
+    print_row("generated", jobs, best, peak / 1024)
+    return best, peak / 1024
+
+
+def measure_generated(program, gen_speed, runs):
+    """What a generated job costs, by the command, and how the time grows with four times the jobs."""
+    seconds, peak = measure_number(program, ("gen", str(GENERATED)), GENERATED, runs)
+    each = seconds * 1_000_000 / GENERATED
+    met = judge(each <= GOAL_GENERATED_MICROSECONDS, f"generated: {each:.3f} microseconds a job (goal: at most {GOAL_GENERATED_MICROSECONDS})")
+    met &= judge(peak <= GOAL_GENERATED_MEGABYTES, f"generated: peak {peak:.1f} MB (goal: at most {GOAL_GENERATED_MEGABYTES:.0f})")
+    if os.access(gen_speed, os.X_OK):
+        few, _ = measure_number(gen_speed, (str(GENERATED), "1"), GENERATED, runs)
+        many, _ = measure_number(gen_speed, (str(4 * GENERATED), "1"), 4 * GENERATED, runs)
+        met &= judge(many / few <= GOAL_RATIO, f"generated: four times the jobs in {many / few:.2f} times the time (goal: at most {GOAL_RATIO})")
+    return met
 
 
 def measure_rings(program, folder, runs):
@@ -286,12 +331,15 @@ def main():
             ratio = many / few
             met &= judge(ratio <= GOAL_RATIO, f"{name}: four times the jobs in {ratio:.2f} times the time (goal: at most {GOAL_RATIO})")
             met &= judge(many_peak <= GOAL_MEGABYTES, f"{name}: peak {many_peak:.1f} MB (goal: at most {GOAL_MEGABYTES:.0f})")
+            met &= measure_shared(program, folder, name, lines, words.runs, many)
             if name == "nop":
                 each = many * 1_000_000 / MANY
                 met &= judge(each <= GOAL_NOP_MICROSECONDS, f"{name}: {each:.3f} microseconds a job (goal: at most {GOAL_NOP_MICROSECONDS:.0f})")
                 met &= measure_quiet(program, folder, words.runs, many)
         met &= measure_rings(program, folder, words.runs)
         met &= measure_marked(program, folder, words.runs)
+    gen_speed = os.path.join(here(), "crates", "gen_speed", "out", "gen_speed")
+    met &= measure_generated(program, gen_speed, words.runs)
     ring_speed = os.path.join(here(), "crates", "ring_speed", "out", "ring_speed")
     if os.access(ring_speed, os.X_OK):
         met &= measure_entries(ring_speed, max(words.runs, 5))

@@ -1,19 +1,17 @@
 //! The rounds of a partner's end of a pair, until it is asked to stop or refused.
 
-ghost use Rattle.uring_shared.specs.Seats.{IsEngineOf};
+ghost use Rattle.uring_shared.specs.Seats.{IsEngineOf, IsPartnerOf};
 
-use partner_serving::{End, Gate, NoGate, StopFlags, serve_rounds};
-use partner_traits::{Partner, PartnerError};
+use partner_serving::{End, Gate, NoGate, Served, StopFlags, serve_rounds};
+use partner_traits::{Partner, PartnerError, PendingCount};
+use std::alloc::Global;
+use std::sync::Wait;
 use std::sync::atomic::{AtomicBool, AtomicU64, Ordering};
 use std::test::Fail;
-use std::thread;
 use uring_base::opcodes::NOP;
 use uring_base::squeue::Entry;
 use uring_partner::{HostilePartner, MemoryPartner};
-use uring_shared::{EngineSeats, SharedPair, UserEnds};
-
-/// How often a side looks at the most, so that it ends also where the other side is stuck.
-const LOOKS: u64 = 100_000_000;
+use uring_shared::{EngineSeats, PartnerSeats, SharedPair, UserEnds};
 
 /// A gate that asks the partner's end to stop as it passes with this number, and tells whether it
 /// was passed by the partner's end alone, with the numbers from 0 on.
@@ -51,11 +49,28 @@ impl<'a> Gate for CountingGate<'a> {
 /// Offers an entry that asks nothing, and publishes it.
 fn offer_nop(pair: &SharedPair, seats: EngineSeats) -> (EngineSeats, bool)
     requires { IsEngineOf pair.now seats }
+    ensures { IsEngineOf pair.now result.0 }
 {
     let mut user = seats.on(pair);
     let offered = user.offer(Entry::blank(NOP).user_data(7), None).is_ok();
     user.publish();
     (user.into_seats(), offered)
+}
+
+/// The rounds of a partner's end, whose seats stay those of the pair.
+fn served<W: Wait, P: Partner + PendingCount, G: Gate>(
+    rt: &W,
+    alloc: Global,
+    pair: &SharedPair,
+    seats: PartnerSeats,
+    partner: P,
+    gate: &G,
+    stops: &StopFlags,
+) -> Served<P>
+    requires { IsPartnerOf pair.now seats }
+    ensures { IsPartnerOf pair.now result.seats }
+{
+    serve_rounds(rt, alloc, pair, seats, partner, gate, stops)
 }
 
 /// The end makes the rounds before which it passes the gate, and no more once it is asked to stop:
@@ -71,9 +86,9 @@ fn stops_where_it_is_asked(rt: HostRuntime) -> Result<(), Fail> {
     let gate = CountingGate::new(&stops, 2);
     let partner = MemoryPartner::new(alloc);
     assert!(rt; !stops.has_stopped());
-    let served = serve_rounds(&rt, alloc, &pair, seats, partner, &gate, &stops);
-    assert_eq!(rt; (served.rounds, served.ended), (3, None));
-    assert_eq!(rt; served.partner.log_len(), 3);
+    let ended = served(&rt, alloc, &pair, seats, partner, &gate, &stops);
+    assert_eq!(rt; (ended.rounds, ended.ended), (3, None));
+    assert_eq!(rt; ended.partner.log_len(), 3);
     assert_eq!(rt; gate.next.load(Ordering::SeqCst), 3);
     assert!(rt; !gate.wrong.load(Ordering::SeqCst));
     assert!(rt; stops.has_stopped());
@@ -91,9 +106,9 @@ fn makes_no_round(rt: HostRuntime) -> Result<(), Fail> {
     let stops = StopFlags::default();
     stops.ask();
     let partner = MemoryPartner::new(alloc);
-    let served = serve_rounds(&rt, alloc, &pair, seats, partner, &NoGate, &stops);
-    assert_eq!(rt; (served.rounds, served.ended), (0, None));
-    assert_eq!(rt; served.partner.log_len(), 0);
+    let ended = served(&rt, alloc, &pair, seats, partner, &NoGate, &stops);
+    assert_eq!(rt; (ended.rounds, ended.ended), (0, None));
+    assert_eq!(rt; ended.partner.log_len(), 0);
     Ok(())
 }
 
@@ -109,12 +124,12 @@ fn ends_at_a_refusal(rt: HostRuntime) -> Result<(), Fail> {
     let gate = CountingGate::new(&stops, 9);
     let mut partner = MemoryPartner::new(alloc);
     partner.fail_enter(alloc, 1)?;
-    let served = serve_rounds(&rt, alloc, &pair, seats, partner, &gate, &stops);
-    assert_eq!(rt; served.ended, Some(PartnerError::Fault(5)));
-    assert_eq!(rt; (served.rounds, served.partner.faults()), (1, 1));
+    let ended = served(&rt, alloc, &pair, seats, partner, &gate, &stops);
+    assert_eq!(rt; ended.ended, Some(PartnerError::Fault(5)));
+    assert_eq!(rt; (ended.rounds, ended.partner.faults()), (1, 1));
     assert_eq!(rt; gate.next.load(Ordering::SeqCst), 1);
     assert!(rt; stops.has_stopped() && !stops.is_asked());
-    let (entries, completions) = pair.meet(engine, served.seats);
+    let (entries, completions) = pair.meet(engine, ended.seats);
     assert_eq!(rt; (entries.left, completions.left), (1, 0));
     Ok(())
 }
@@ -130,50 +145,10 @@ fn serves_one_that_tells_no_files(rt: HostRuntime) -> Result<(), Fail> {
     let stops = StopFlags::new();
     let gate = CountingGate::new(&stops, 1);
     let partner = HostilePartner::new(alloc, Vec::new(alloc));
-    let served = serve_rounds(&rt, alloc, &pair, seats, partner, &gate, &stops);
-    assert_eq!(rt; (served.rounds, served.ended), (2, None));
-    assert_eq!(rt; served.partner.log_len(), 2);
-    let (entries, completions) = pair.meet(engine, served.seats);
+    let ended = served(&rt, alloc, &pair, seats, partner, &gate, &stops);
+    assert_eq!(rt; (ended.rounds, ended.ended), (2, None));
+    assert_eq!(rt; ended.partner.log_len(), 2);
+    let (entries, completions) = pair.meet(engine, ended.seats);
     assert_eq!(rt; (entries.left, completions.left), (0, 0));
-    Ok(())
-}
-
-/// Looks until a completion comes, and then asks the other end to stop. Tells its number.
-fn reap_and_stop(pair: &SharedPair, seats: EngineSeats, stops: &StopFlags) -> Option<u64>
-    requires { IsEngineOf pair.now seats }
-{
-    let mut user = seats.on(pair);
-    let mut number = None;
-    for _look in 0..LOOKS {
-        user.refresh();
-        if let Some(completion) = user.reap() {
-            number = Some(completion.user_data);
-            break;
-        }
-        thread::yield_now();
-    }
-    stops.ask();
-    number
-}
-
-/// The partner's end on a thread of its own, which keeps its promise.
-#[test]
-#[tactic(auto, unfolding(ring_core::specs::Positions::is_ring_size))]
-fn on_a_thread_of_its_own(rt: HostRuntime) -> Result<(), Fail> {
-    let alloc = rt.alloc();
-    let (pair, engine, seats) = SharedPair::new(alloc, 2, 4, 0)?;
-    let (engine, offered) = offer_nop(&pair, engine);
-    assert!(rt; offered);
-    let stops = StopFlags::new();
-    let partner = MemoryPartner::new(alloc);
-    let (shared, flags) = (&pair, &stops);
-    let (number, served) = thread::join(
-        &rt,
-        move || reap_and_stop(shared, engine, flags),
-        || serve_rounds(&rt, alloc, shared, seats, partner, &NoGate, flags),
-    );
-    assert_eq!(rt; number, Some(7));
-    assert_eq!(rt; (served.ended, served.partner.log_len()), (None, 3));
-    assert!(rt; served.rounds > 0);
     Ok(())
 }

@@ -64,6 +64,13 @@ fn large_entries_go_through(rt: HostRuntime) -> Result<(), Fail> {
     Ok(())
 }
 
+/// The two further numbers of a completion, and whether it is large.
+fn further(completion: Option<Completion>) -> Option<([u64; 2], bool)> {
+    let completion = completion?;
+    let big = completion.big;
+    Some((big, completion.large))
+}
+
 fn posted(number: u64, large: bool) -> Completion {
     Completion {
         user_data: number,
@@ -86,9 +93,7 @@ fn large_completions_go_through(rt: HostRuntime) -> Result<(), Fail> {
         ring.completion().next().map(|received| received.entry),
         Some(Entry32::from_parts(1, -5, 7, [1, 2]))
     );
-    let last = ring
-        .reap()
-        .map(|completion| (completion.big, completion.large));
+    let last = further(ring.reap());
     assert_eq!(rt; last, Some(([1, 2], true)));
     Ok(())
 }
@@ -134,13 +139,9 @@ fn completions_of_both_sizes_go_through(rt: HostRuntime) -> Result<(), Fail> {
     let small = MixedCompletion::Small(cqueue::Entry::from_parts(2, -5, 7, [0; 2]));
     assert_eq!(rt; queue.next().map(|received| received.entry), Some(small));
     drop(queue);
-    let third = ring
-        .reap()
-        .map(|completion| (completion.big, completion.large));
+    let third = further(ring.reap());
     assert_eq!(rt; third, Some(([1, 2], true)));
-    let fourth = ring
-        .reap()
-        .map(|completion| (completion.big, completion.large));
+    let fourth = further(ring.reap());
     assert_eq!(rt; fourth, Some(([0; 2], false)));
     Ok(())
 }
