@@ -193,7 +193,7 @@ fn a_probe_tells_what_is_served(rt: HostRuntime) -> Result<(), Fail> {
     assert_eq!(rt; request.code, 8);
     assert_eq!(rt; request.nr, 256);
     assert_eq!(rt; request.nums.len(), 257);
-    let served: [u8; 6] = [0, 3, 14, 22, 23, 55];
+    let served: [u8; 12] = [0, 3, 14, 18, 19, 21, 22, 23, 35, 36, 37, 55];
     for op in 0..=255 {
         assert_eq!(rt; probe.is_supported(op), served.contains(&op));
     }

@@ -1,7 +1,5 @@
-ghost use Rattle.std.specs.Prelude.{refl};
-
 use bitflags::Flags as _;
-use partner_traits::{Counts, EnterCall, Partner, PartnerError};
+use partner_traits::{EnterCall, Partner};
 use ring_setup::SubmissionFlags;
 use ring_traits::{PartnerSide, UserEnds};
 use std::alloc::Global;
@@ -16,69 +14,11 @@ use uring_ring::IoUring;
 use uring_submit::{EnterFlags, SubmitError, Submitter};
 use uring_types::SubmitArgs;
 
-/// A partner in memory, and the call of its last enter.
-#[derive(Drop)]
-struct Recording {
-    inner: MemoryPartner,
-    last: Option<EnterCall>,
-}
-
-impl Counts for Recording {
-    ghost faults = { λ partner. ⟦<MemoryPartner as Counts>⟧.faults partner.inner };
-}
-
-impl Partner for Recording {
-    ghost log = { λ partner. ⟦<MemoryPartner as Partner>⟧.log partner.inner };
-
-    ghost log_count = { λ partner. ⟦<MemoryPartner as Partner>⟧.log_count partner.inner };
-
-    ghost World = { ⟦<MemoryPartner as Partner>⟧.World };
-
-    ghost machine = { ⟦<MemoryPartner as Partner>⟧.machine };
-
-    ghost state = { λ partner. ⟦<MemoryPartner as Partner>⟧.state partner.inner };
-
-    ghost view = { ⟦<MemoryPartner as Partner>⟧.view };
-
-    ghost Plain = { ⟦<MemoryPartner as Partner>⟧.Plain };
-
-    ghost refines = { ⟦<MemoryPartner as Partner>⟧.refines };
-
-    ghost put = { ⟦<MemoryPartner as Partner>⟧.put };
-
-    ghost puts = { ⟦<MemoryPartner as Partner>⟧.puts };
-
-    ghost plan = { λ partner. ⟦<MemoryPartner as Partner>⟧.plan partner.inner };
-
-    ghost errno = { λ partner. ⟦<MemoryPartner as Partner>⟧.errno partner.inner };
-
-    ghost calls = { λ partner. ⟦<MemoryPartner as Partner>⟧.calls partner.inner };
-
-    fn enter<Q: PartnerSide>(
-        &mut self,
-        alloc: Global,
-        call: &EnterCall,
-        side: &mut Q,
-    ) -> Result<u32, PartnerError> {
-        self.last = Some(*call);
-        self.inner.enter(alloc, call, side)
-    }
-
-    fn log_len(&self) -> usize {
-        self.inner.log_len()
-    }
-
-    fn log_event(&self, place: usize) -> Event {
-        self.inner.log_event(place)
-    }
-
-    ghost counts_log = { λ _. refl };
-}
-
-/// Asserts that the last enter had these values, over the raw descriptor.
+/// Asserts that the enter in this place had these values, over the raw descriptor.
 fn assert_entered(
     rt: &impl Abort,
-    partner: &Recording,
+    partner: &MemoryPartner,
+    place: usize,
     to_submit: u32,
     want: u32,
     flags: EnterFlags,
@@ -90,7 +30,7 @@ fn assert_entered(
         flags: flags.bits(),
         args: None,
     };
-    assert_eq!(rt; partner.last, Some(wanted));
+    assert_eq!(rt; partner.enter_call(place), Some(&wanted));
 }
 
 /// The one call that can find no memory answers otherwise where there is memory.
@@ -113,28 +53,25 @@ fn values_of_an_enter(rt: HostRuntime) -> Result<(), Fail> {
     let alloc = rt.alloc();
     let mut ring = IoUring::new(alloc, 2)?;
     let mut submitter = Submitter::new(ring.params());
-    let mut partner = Recording {
-        inner: MemoryPartner::new(alloc),
-        last: None,
-    };
+    let mut partner = MemoryPartner::new(alloc);
     assert_eq!(rt;
         submitter.submit_and_wait(alloc, &mut ring, &mut partner, 0),
         Ok(0)
     );
-    assert_entered(&rt, &partner, 0, 0, EnterFlags::empty());
+    assert_entered(&rt, &partner, 0, 0, 0, EnterFlags::empty());
     assert!(rt; ring.offer(Nop::new().build(), None).is_ok());
     ring.publish();
     assert_eq!(rt;
         submitter.submit_and_wait(alloc, &mut ring, &mut partner, 3),
         Ok(1)
     );
-    assert_entered(&rt, &partner, 1, 3, EnterFlags::GETEVENTS);
+    assert_entered(&rt, &partner, 1, 1, 3, EnterFlags::GETEVENTS);
     ring.set_sq_flags(SubmissionFlags::CQ_OVERFLOW.bits());
     assert_eq!(rt;
         submitter.submit_and_wait(alloc, &mut ring, &mut partner, 0),
         Ok(0)
     );
-    assert_entered(&rt, &partner, 0, 0, EnterFlags::GETEVENTS);
+    assert_entered(&rt, &partner, 2, 0, 0, EnterFlags::GETEVENTS);
     Ok(())
 }
 
@@ -181,10 +118,7 @@ fn values_of_the_other_enters(rt: HostRuntime) -> Result<(), Fail> {
     let alloc = rt.alloc();
     let mut ring = IoUring::new(alloc, 2)?;
     let mut submitter = Submitter::new(ring.params());
-    let mut partner = Recording {
-        inner: MemoryPartner::new(alloc),
-        last: None,
-    };
+    let mut partner = MemoryPartner::new(alloc);
     let args = SubmitArgs::new().min_wait_usec(5);
     assert_eq!(rt;
         submitter.submit_with_args(alloc, &mut ring, &mut partner, 1, args),
@@ -197,16 +131,16 @@ fn values_of_the_other_enters(rt: HostRuntime) -> Result<(), Fail> {
         flags: 9,
         args: Some(args),
     };
-    assert_eq!(rt; partner.last, Some(wanted));
+    assert_eq!(rt; partner.enter_call(0), Some(&wanted));
     assert_eq!(rt;
         submitter.squeue_wait(alloc, &mut ring, &mut partner),
         Ok(0)
     );
-    assert_entered(&rt, &partner, 0, 0, EnterFlags::SQ_WAIT);
+    assert_entered(&rt, &partner, 1, 0, 0, EnterFlags::SQ_WAIT);
     assert_eq!(rt;
         submitter.enter(alloc, &mut ring, &mut partner, 3, 4, 64, None),
         Ok(0)
     );
-    assert_entered(&rt, &partner, 3, 4, EnterFlags::EXT_ARG_REG);
+    assert_entered(&rt, &partner, 2, 3, 4, EnterFlags::EXT_ARG_REG);
     Ok(())
 }

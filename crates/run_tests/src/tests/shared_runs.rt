@@ -37,9 +37,9 @@ fn has_bytes(outcome: &Outcome, bytes: &[u8]) -> bool {
 }
 
 /// A drained write that is linked, and a drained read of what it wrote, over rings of one entry and
-/// one completion. The positions wrap.
+/// one completion. The positions wrap. There is memory, so the run has its report.
 #[test]
-fn small_rings(rt: HostRuntime) -> Result<(), Fail> {
+fn each_call_of_a_shared_run(rt: HostRuntime) -> Result<(), Fail> {
     let alloc = rt.alloc();
     let mut partner = MemoryPartner::new(alloc);
     assert!(rt; partner.put_file(alloc, 1, Buf::new(alloc)).is_ok());
@@ -133,12 +133,21 @@ fn gate_two_ends(rt: HostRuntime) -> Result<(), Fail> {
     Ok(())
 }
 
-/// More jobs than the rings hold. Each is answered, and taken once.
+/// More jobs than the rings hold, every other one quiet. Each is answered, and taken once; of the
+/// quiet ones the journal tells as such.
 #[test]
 fn many_jobs(rt: HostRuntime) -> Result<(), Fail> {
     let alloc = rt.alloc();
     let partner = MemoryPartner::new(alloc);
-    let jobs = nops(alloc, 100)?;
+    let mut jobs = Vec::new(alloc);
+    for number in 0..100 {
+        jobs.push(Job {
+            kind: JobKind::Nop,
+            drain: false,
+            quiet: number % 2 == 0,
+            link: Link::Hard,
+        })?;
+    }
     let (result, _partner) = run_shared(&rt, alloc, 4, 8, 0, partner, jobs, &NoGate);
     let Ok(report) = result else {
         assert!(rt; false);
@@ -146,13 +155,18 @@ fn many_jobs(rt: HostRuntime) -> Result<(), Fail> {
     };
     assert_eq!(rt; report.outcomes.len(), 100);
     let mut taken: u64 = 0;
+    let mut quiet: u64 = 0;
     for event in &report.journal {
         if let Event::Take(number) = event {
             assert_eq!(rt; *number, taken);
             taken = taken.wrapping_add(1);
         }
+        if let Event::Quiet(number) = event {
+            assert_eq!(rt; *number, quiet.wrapping_mul(2));
+            quiet = quiet.wrapping_add(1);
+        }
     }
-    assert_eq!(rt; taken, 100);
+    assert_eq!(rt; (taken, quiet), (100, 50));
     Ok(())
 }
 
