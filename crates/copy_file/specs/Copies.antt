@@ -8,7 +8,7 @@ use Rattle.copy_file.specs.declared.copied.TheConstants.{PIECE}
 
 -- the bytes of the file of that number
 abbrev pub bytes_under : MemoryPartner → ℕ → Option (List ℕ)
-bytes_under partner number = finite.get (state_of partner).world number
+bytes_under partner number = finite.get (state_of partner).world.files number
 
 -- both files are there, with the same bytes
 abbrev pub IsCopy : Option (List ℕ) → Option (List ℕ) → Type 0

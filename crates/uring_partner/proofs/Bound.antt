@@ -4,7 +4,7 @@ use Rattle.std.proofs.lemmas.List.Sums.{sum_by-cons}
 use Rattle.std.proofs.Common.{ap, sym, ◌∙◌, arith, length-append}
 use Rattle.uring_model.specs.declared.pending.Pending.{Pending}
 use Rattle.uring_model.specs.Jobs.{linked}
-use Rattle.uring_model.specs.Partner.{Cursor, job_of, held, no_drain, is_nil, is_ready, ready_cursors, named}
+use Rattle.uring_partner.specs.Served.{Cursor, job_of, held, no_drain, is_nil, is_ready, ready_cursors, named}
 use Rattle.uring_partner.specs.Bound.{bound_in, is_bound}
 use Rattle.uring_partner.proofs.Ready.{held-append, drain-append, kept}
 

@@ -2,6 +2,7 @@ pub mod Ready
 pub mod Marks
 pub mod Bound
 pub mod Among
+pub mod Comes
 pub mod Settled
 pub mod Turns
 pub mod Lowered

@@ -5,8 +5,9 @@ use Rattle.std.proofs.Math.Seq.{set-append_seam}
 use Rattle.std.proofs.lemmas.Option.{same_Some, slice_get_within, slice_get_read}
 use Rattle.std.proofs.Common.{ap, sym, ◌∙◌, append-nil, arith, length-append, get_or, add-one}
 use Rattle.uring_model.specs.declared.pending.Pending.{Pending}
-use Rattle.uring_model.specs.Machine.{Files, step, canceled}
-use Rattle.uring_model.specs.Partner.{Cursor, job_of, has_unmarked, mark_first, pass, answer_to, named, ready_cursors}
+use Rattle.uring_model.specs.Schedule.{canceled_in}
+use Rattle.file_tree.specs.declared.world.World.{World}
+use Rattle.uring_partner.specs.Served.{Cursor, job_of, has_unmarked, mark_first, pass, world_machine, answer_to, named, ready_cursors}
 use Rattle.uring_model.proofs.Progress.{split_of}
 use Rattle.uring_partner.specs.Marks.{marked_one, cut_one, IsFirstUnmarked, IsToldCut}
 use Rattle.uring_partner.specs.Settling.{answered_among}
@@ -98,8 +99,8 @@ told_next front (y ∷ back) ys k b e h =
 
 -- what the code works with: the entry that settles is out, and the others are one list
 
-pub answer_here : (files : Files) (c : Cursor) → answered_among files (c.front ++ c.back) c.item ≡ answer_to files c
-answer_here files c = λ i. cond (c.item.marked || c.item.cut) (canceled files (job_of c.item.taken).buf) (step files (λ t. has-append t c.front c.back i) (job_of c.item.taken).op (job_of c.item.taken).buf)
+pub answer_here : (w : World) (c : Cursor) → answered_among w (c.front ++ c.back) c.item ≡ answer_to w c
+answer_here w c = λ i. cond (c.item.marked || c.item.cut) (canceled_in w (job_of c.item.taken).buf) (world_machine.answer w (λ t. has-append t c.front c.back i) c.item.taken)
 
 get_or_seam : (front : List Pending) (y : Pending) (back : List Pending) (k : ℕ) (d : Pending) → k ≡ length front → get_or (front ++ y ∷ back) k d ≡ y
 get_or_seam [] y back zero d e = refl

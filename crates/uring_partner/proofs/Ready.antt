@@ -7,7 +7,7 @@ use Rattle.std.proofs.Common.{ap, sym, subst, ◌∙◌, arith, add-one, get_or}
 use Rattle.uring_model.specs.declared.pending.Pending.{Pending}
 use Rattle.uring_model.specs.Jobs.{linked}
 use Rattle.uring_model.specs.Replay.{keep_if}
-use Rattle.uring_model.specs.Partner.{Cursor, job_of, held, no_drain, is_nil, is_ready, ready_cursors}
+use Rattle.uring_partner.specs.Served.{Cursor, job_of, held, no_drain, is_nil, is_ready, ready_cursors}
 
 -- how far the scan is: at place i, with what it knows of the entries before
 pub record Scans (xs : List Pending) (i : ℕ) (w u : Bool) : Type 0 where

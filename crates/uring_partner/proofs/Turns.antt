@@ -7,10 +7,10 @@ use Rattle.uring_base.specs.declared.events.Taken.{Taken}
 use Rattle.uring_base.specs.declared.events.Completion.{Completion}
 use Rattle.uring_model.specs.Chosen.{choice, stops}
 use Rattle.uring_model.specs.Moves.{Move, Turned, Took, took, posted, log_of}
-use Rattle.uring_model.specs.Partner.{PartnerState, file_machine, cursors, named, answer_to, completion_of, is_quiet_end, after_take, Steps}
-use Rattle.uring_model.specs.Turn.{EntryEnd, ByPost, Quietly, ended, posts_of, room_after, ends_turn, Outturn, ending, stays, settle_then, settle_turn, settle_all, take_all}
+use Rattle.uring_partner.specs.Served.{PartnerState, world_machine, cursors, named, answer_to, completion_of, is_quiet_end, after_take, Steps}
+use Rattle.uring_partner.specs.Served.{EntryEnd, ByPost, Quietly, ended, posts_of, room_after, ends_turn, Outturn, ending, stays, settle_then, settle_turn, settle_all, take_all}
 use Rattle.uring_model.proofs.Joins.{took-append, posted-append, took_turn, posted_turn, log-append}
-use Rattle.uring_model.proofs.Progress.{one_less}
+use Rattle.uring_model.proofs.Progress.{one_left}
 use Rattle.ring_traits.specs.Lists.{Lists, Moves, WhereTold, HasRoom, room_of}
 use Rattle.uring_partner.specs.declared.memory.MemoryPartner.{MemoryPartner}
 use Rattle.partner_traits.specs.Calls.{Enters, IsTurn, IsFullTurn}
@@ -101,7 +101,7 @@ few_spare (ByPost c) = omega arith
 few_spare (Quietly n) = omega arith
 
 pub pending_less : (a b : PartnerState) (e : EntryEnd) → SettlesAs a e b → length b.pending + 1 ≡ length a.pending
-pending_less a b e s = ap (λ x. length x.pending + 1) s.state ∙ one_less a s.cursor s.chosen
+pending_less a b e s = ap (λ x. length x.pending + 1) s.state ∙ one_left world_machine a s.cursor s.chosen
 
 -- what is settled so far, one entry more, and then the rest
 runs_then : (es : List EntryEnd) (spare : ℕ) (a b d : PartnerState) (e : EntryEnd) (left room : ℕ) → Runs es spare a b → SettlesAs b e d → spare_of e ≤ room
@@ -295,7 +295,7 @@ takes_first a c (t ∷ ts) ms h = (refl, takes_first (after_take a t) c ts ms h)
 pub entered : {Q : Type 0} (moved : Q → List Taken → List Completion → Q → Type 0) → Joins moved → (a b c d : MemoryPartner) (s t u v : Q) (p : ℕ) (ts : List Taken) (es : List EntryEnd)
     → GoesBy moved a b s t (Turned p ∷ []) → state_of b ≡ state_of a → GoesBy moved b c t u (map Took ts) → state_of c ≡ take_all (state_of b) ts
     → GoesBy moved c d u v (map ended es) → Steps false (state_of c) (map ended es) (state_of d)
-    → Enters file_machine told_log told_state moved a d s v (Turned p ∷ (map Took ts ++ map ended es))
+    → Enters world_machine told_log told_state moved a d s v (Turned p ∷ (map Took ts ++ map ended es))
 entered moved joins a b c d s t u v p ts es g e h f k steps =
     let all = goes_then moved joins a b d s t v (Turned p ∷ []) (map Took ts ++ map ended es) g (goes_then moved joins b c d t u v (map Took ts) (map ended es) h k) in
     record {
@@ -305,7 +305,7 @@ entered moved joins a b c d s t u v p ts es g e h f k steps =
     }
 
 -- a call that took all of its number, and settled all
-pub is_full : (a : PartnerState) (x : Option Lists) (known space p : ℕ) (ts : List Taken) (es : List EntryEnd) → length ts ≡ p → known ≤ p → SettlesAll space x (take_all a ts) es → IsFullTurn file_machine (Some a) known space x (Turned p ∷ (map Took ts ++ map ended es))
+pub is_full : (a : PartnerState) (x : Option Lists) (known space p : ℕ) (ts : List Taken) (es : List EntryEnd) → length ts ≡ p → known ≤ p → SettlesAll space x (take_all a ts) es → IsFullTurn world_machine (Some a) known space x (Turned p ∷ (map Took ts ++ map ended es))
 is_full a x known space p ts es e k h = record {
   ts = ts;
   room = h.room;

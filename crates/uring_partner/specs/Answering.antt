@@ -1,8 +1,10 @@
 -- How a memory partner answers a registration.
-use Rattle.std.specs.Prelude.{◌≡◌, ℕ, ◌+◌, ◌-◌, ◌<◌, ◌^◌, min, Bool, false, cond, nat_eq, nat_lt, ◌||◌, ◌&&◌, bit_and, List, [], ◌∷◌, length, replicate, slice_index, Option, Some, None, Result, IfOk, IfErr, Err}
+use Rattle.std.specs.Prelude.{◌≡◌, ℕ, ◌+◌, ◌-◌, ◌<◌, ◌^◌, min, Bool, false, cond, nat_eq, nat_lt, ◌||◌, ◌&&◌, bit_and, List, [], length, replicate, slice_index, Option, Some, None, is_some, Result, IfErr, Err}
 use Rattle.uring_base.specs.Words.{bits_of, blank}
 use Rattle.uring_base.specs.declared.errno.TheConstants.{EINVAL}
+use Rattle.uring_base.specs.declared.events.Taken.{Taken}
 use Rattle.uring_model.specs.Asks.{is_job_operation, op_of}
+use Rattle.file_tree.specs.Asks.{path_op_of}
 use Rattle.uring_types.specs.declared.register_codes.TheConstants.{USE_REGISTERED_RING, OP_SUPPORTED}
 use Rattle.uring_types.specs.declared.register_codes.TheConstants as codes
 use Rattle.partner_traits.specs.declared.call.PartnerError.{PartnerError}
@@ -60,9 +62,13 @@ given_after Refused given = given
 abbrev pub no_bytes : List ℕ
 no_bytes = replicate 64 0
 
--- a bare entry of this code, with a loan, asks for an operation that is served
+-- a bare entry of this code, with a loan
+abbrev pub bare_of : ℕ → Taken
+bare_of code = record { entry = blank code; big = no_bytes; large = false; loan = Some (record { number = 0; from = 0; buf = [] }) }
+
+-- it asks for an operation that is served, of the tree or of the files
 abbrev pub is_served : ℕ → Bool
-is_served code = is_job_operation (op_of (record { entry = blank code; big = no_bytes; large = false; loan = Some (record { number = 0; from = 0; buf = [] }) }))
+is_served code = is_some (path_op_of (bare_of code)) || is_job_operation (op_of (bare_of code))
 
 -- what a probe tells in this place: the last code, and then the flags of each code
 abbrev pub probed : ℕ → ℕ

@@ -2,7 +2,7 @@
 use Rattle.std.specs.Prelude.{ℕ, Bool, ◌||◌, List, count_by}
 use Rattle.uring_model.specs.declared.pending.Pending.{Pending}
 use Rattle.uring_model.specs.Jobs.{linked}
-use Rattle.uring_model.specs.Partner.{job_of}
+use Rattle.uring_partner.specs.Served.{job_of}
 
 -- The entry has a link or a drain. Where no pending entry has, all are ready.
 abbrev pub is_bound : Pending → Bool

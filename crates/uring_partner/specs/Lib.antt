@@ -1,3 +1,4 @@
+pub mod Served
 pub mod Bound
 pub mod Marks
 pub mod Settling
@@ -7,3 +8,4 @@ pub mod Logs
 pub mod Script
 pub mod Answering
 pub mod KeptCalls
+pub mod JobRuns

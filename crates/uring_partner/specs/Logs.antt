@@ -1,12 +1,16 @@
 -- What the parts of a turn do to a log, and what a hostile partner tells.
 use Rattle.std.specs.Prelude.{◌≡◌, ℕ, List, ◌++◌, drop, Option, Some, None}
+use Rattle.std.specs.FinMap.{insert}
 use Rattle.uring_base.specs.declared.buffer.Loan.{Loan}
 use Rattle.uring_base.specs.declared.events.Taken.{Taken}
 use Rattle.uring_base.specs.declared.events.Completion.{Completion}
 use Rattle.uring_base.specs.declared.events.LogEvent.{LogEvent}
 use Rattle.partner_traits.specs.declared.request.Request.{Request}
 use Rattle.uring_model.specs.Moves.{Move, took, posted, log_of}
+use Rattle.uring_model.specs.Machine.{Files}
 use Rattle.uring_model.specs.Partner.{PartnerState}
+use Rattle.uring_model.specs.Refines.{AnyFiles, same_files}
+use Rattle.partner_traits.specs.Calls.{Puts}
 use Rattle.uring_partner.specs.declared.hostile.HostilePartner.{HostilePartner}
 use Rattle.uring_partner.specs.declared.hostile.Scripted.{Scripted}
 
@@ -21,6 +25,13 @@ hostile_log p = Some p.log.items
 -- it tells no files
 abbrev pub no_state : HostilePartner → Option PartnerState
 no_state p = None
+
+-- what is put in would stand among the files
+abbrev pub put_in : ℕ → List ℕ → Files → Files
+put_in number bytes files = insert files number bytes
+
+abbrev pub puts_in : Puts same_files AnyFiles put_in
+puts_in = record { seen = λ number bytes files i. insert files number bytes; plain = λ number bytes files plain. tt }
 
 -- the items of its script that aren't used up
 abbrev pub script_left : HostilePartner → List Scripted

@@ -1,7 +1,7 @@
 -- Marks and cuts of what is pending, by places.
 use Rattle.std.specs.Prelude.{◌≡◌, ℕ, Bool, true, List, Some, slice_get, slice_set}
 use Rattle.uring_model.specs.declared.pending.Pending.{Pending}
-use Rattle.uring_model.specs.Partner.{has_unmarked, mark_first}
+use Rattle.uring_partner.specs.Served.{has_unmarked, mark_first}
 
 abbrev pub marked_one : Pending → Pending
 marked_one i = record { taken = i.taken; cut = i.cut; marked = true }

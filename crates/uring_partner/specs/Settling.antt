@@ -7,20 +7,37 @@ use Rattle.uring_base.specs.Loans.{with_part}
 use Rattle.uring_model.specs.declared.pending.Pending.{Pending}
 use Rattle.uring_model.specs.Chosen.{choice}
 use Rattle.uring_model.specs.Jobs.{ends_quietly}
-use Rattle.uring_model.specs.Machine.{Files, FileAnswer, step, canceled}
-use Rattle.uring_model.specs.Partner.{PartnerState, Cursor, job_of, has_unmarked, named, cursors}
-use Rattle.uring_model.specs.Turn.{EntryEnd, ByPost, Quietly, end_of, settled_by, settle_all}
+use Rattle.uring_model.specs.Machine.{Answer, Files, FileAnswer, step, canceled}
+use Rattle.uring_model.specs.Schedule.{canceled_in}
+use Rattle.file_tree.specs.Asks.{path_op_of}
+use Rattle.file_tree.specs.declared.path_operation.PathOperation.{PathOperation}
+use Rattle.file_tree.specs.declared.world.World.{World}
+use Rattle.uring_partner.specs.Served.{PartnerState, world_machine, Cursor, job_of, has_unmarked, named, cursors, EntryEnd, ByPost, Quietly, end_of, settled_by, settle_all}
 use Rattle.ring_traits.specs.Lists.{Lists, room_of}
 
 -- what an entry is answered among the others
-abbrev pub answered_among : Files → List Pending → Pending → FileAnswer
-answered_among files rest i =
+abbrev pub answered_among : World → List Pending → Pending → Answer World
+answered_among w rest i =
+    if i.marked || i.cut then canceled_in w (job_of i.taken).buf
+    else world_machine.answer w (λ number. has_unmarked number rest) i.taken
+
+-- the entry with the loan that comes back
+abbrev pub settled_item : Pending → ℤ → List ℕ → Pending
+settled_item i r bytes = record { taken = record i.taken { loan = world_machine.back i.taken r bytes }; cut = i.cut; marked = i.marked }
+
+-- what it asks of the tree, which isn't asked where it is canceled
+abbrev pub asked_in : Pending → Option PathOperation
+asked_in i = if i.marked || i.cut then None else path_op_of i.taken
+
+-- the same of an entry that asks nothing of the tree
+
+abbrev pub file_answer_among : Files → List Pending → Pending → FileAnswer
+file_answer_among files rest i =
     if i.marked || i.cut then canceled files (job_of i.taken).buf
     else step files (λ number. has_unmarked number rest) (job_of i.taken).op (job_of i.taken).buf
 
--- the entry whose loan has these bytes in its part
-abbrev pub settled_item : Pending → List ℕ → Pending
-settled_item i part = record { taken = record i.taken { loan = with_part i.taken.loan part }; cut = i.cut; marked = i.marked }
+abbrev pub with_bytes : Pending → List ℕ → Pending
+with_bytes i part = record { taken = record i.taken { loan = with_part i.taken.loan part }; cut = i.cut; marked = i.marked }
 
 -- a loan without its bytes: its number, its place and how many there are
 abbrev pub bare : Option Loan → Option (ℕ × ℕ × ℕ)

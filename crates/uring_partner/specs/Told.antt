@@ -1,19 +1,18 @@
 -- What a memory partner tells.
 use Rattle.std.specs.Prelude.{ℕ, List, Option, Some}
 use Rattle.std.specs.FinMap.{insert}
-use Rattle.uring_model.specs.Machine.{Files}
-use Rattle.uring_model.specs.Refines.{AnyFiles, same_files}
+use Rattle.file_tree.specs.Worlds.{AnyWorld, files_of, put_in}
 use Rattle.partner_traits.specs.Calls.{Puts}
 use Rattle.partner_traits.specs.declared.call.EnterCall.{EnterCall}
 use Rattle.partner_traits.specs.declared.request.PartnerCall.{PartnerCall}
 use Rattle.partner_traits.specs.declared.request.Request.{Request}
 use Rattle.uring_base.specs.declared.events.LogEvent.{LogEvent}
-use Rattle.uring_model.specs.Partner.{PartnerState}
+use Rattle.uring_partner.specs.Served.{PartnerState}
 use Rattle.uring_partner.specs.declared.memory.MemoryPartner.{MemoryPartner}
 use Rattle.uring_partner.specs.KeptCalls.{enters_in, requests_in}
 
 abbrev pub state_of : MemoryPartner → PartnerState
-state_of p = record { world = p.files; pending = p.pending.items.items; tail = p.tail; choices = p.choices.items }
+state_of p = record { world = p.world; pending = p.pending.items.items; tail = p.tail; choices = p.choices.items }
 
 abbrev pub told_state : MemoryPartner → Option PartnerState
 told_state p = Some (state_of p)
@@ -38,12 +37,9 @@ told_calls p = Some p.ledger.calls.items
 abbrev pub given_by : MemoryPartner → ℕ
 given_by p = p.ledger.personalities
 
--- a file put in stands in place of what was there
-abbrev pub put_in : ℕ → List ℕ → Files → Files
-put_in number bytes files = insert files number bytes
-
-abbrev pub puts_in : Puts same_files AnyFiles put_in
-puts_in = record { seen = λ number bytes files i. insert files number bytes; plain = λ number bytes files plain. tt }
+-- a file put in is seen among the files
+abbrev pub puts_in : Puts files_of AnyWorld put_in
+puts_in = record { seen = λ number bytes w i. insert w.files number bytes; plain = λ number bytes w plain. tt }
 
 -- the enters, and the registrations, that it answered with a number, in order
 abbrev pub entered_of : MemoryPartner → List EnterCall

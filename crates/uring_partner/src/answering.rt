@@ -3,6 +3,7 @@
 ghost use Rattle.std.specs.Prelude.{◌≡◌, IfOk};
 ghost use Rattle.uring_partner.specs.Answering.{answering_to, given_after, is_served, number_left, number_of, plain_code, probed, LeavesBy};
 
+use file_tree::path_operation_of;
 use std::alloc::{AllocError, Global};
 use uring_base::squeue::Entry;
 use uring_base::{Buf, Loan, Nums, Taken, opcodes};
@@ -113,6 +114,9 @@ fn is_served(alloc: Global, code: u8) -> bool
             buf: Buf::new(alloc),
         }),
     };
+    if path_operation_of(&taken).is_some() {
+        return true;
+    }
     match operation_of(&taken) {
         Operation::Lacking | Operation::Unknown => false,
         _ => true,

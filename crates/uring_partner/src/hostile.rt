@@ -289,9 +289,8 @@ impl Partner for HostilePartner {
     ghost use Rattle.uring_model.specs.Partner.{file_machine};
     ghost use Rattle.uring_model.specs.Refines.{AnyFiles, same_files, files_refine};
     ghost use Rattle.partner_traits.specs.Calls.{Enters, IsCall};
-    ghost use Rattle.uring_partner.specs.Logs.{hostile_log, no_state};
+    ghost use Rattle.uring_partner.specs.Logs.{hostile_log, no_state, put_in, puts_in};
     ghost use Rattle.uring_partner.specs.Script.{PlaysCall};
-    ghost use Rattle.uring_partner.specs.Told.{put_in, puts_in};
 
     ghost log = { hostile_log };
 

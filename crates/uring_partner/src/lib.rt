@@ -6,6 +6,7 @@ mod chain;
 mod ending;
 mod hostile;
 mod kept_calls;
+pub mod laws;
 mod ledger;
 mod logging;
 mod memory;
@@ -14,6 +15,7 @@ mod plan;
 mod registering;
 mod scan;
 mod settle;
+mod settle_on_tree;
 
 pub use hostile::{HostilePartner, LoanPlan, Scripted};
 pub use memory::MemoryPartner;

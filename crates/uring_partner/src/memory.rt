@@ -9,6 +9,7 @@ use crate::pending_list::PendingList;
 use crate::plan::pass_enter;
 use crate::scan::chosen_place;
 use crate::settle::settle;
+use file_tree::World;
 use partner_traits::{
     Counts, EnterCall, Partner, PartnerCall, PartnerError, PendingCount, Seedable,
 };
@@ -17,7 +18,7 @@ use std::alloc::{AllocError, Global};
 use std::collections::VecDeque;
 use uring_base::errno::EIO;
 use uring_base::{Buf, Completion, Event, LogEvent};
-use uring_model::{Files, Pending, has_link};
+use uring_model::{Pending, has_link};
 
 /// The choice once the choices have run out: the entry in front of the ready ones settles, and the
 /// turn goes on.
@@ -31,7 +32,7 @@ const IN_ORDER: u32 = 1;
 /// posts nothing, and the turn goes on after it.
 #[derive(Drop)]
 pub struct MemoryPartner {
-    files: Files,
+    world: World,
     pending: PendingList,
     // Where the entry taken last has a link: whether the next one is cut.
     tail: Option<bool>,
@@ -47,8 +48,8 @@ impl MemoryPartner {
     ghost use Rattle.uring_base.specs.declared.events.Taken.{Taken};
     ghost use Rattle.uring_model.specs.Chosen.{choice, stops};
     ghost use Rattle.uring_model.specs.Moves.{Move, Turned, Took, took, logged};
-    ghost use Rattle.uring_model.specs.Partner.{IsIdle, Steps, file_machine, after_take, idle};
-    ghost use Rattle.uring_model.specs.Turn.{EntryEnd, ended, ends_turn, posts_of, take_all};
+    ghost use Rattle.file_tree.specs.Worlds.{empty_world};
+    ghost use Rattle.uring_partner.specs.Served.{IsIdle, Steps, world_machine, after_take, idle, EntryEnd, ended, ends_turn, posts_of, take_all};
     ghost use Rattle.partner_traits.specs.Calls.{Enters, IsCall, IsFullTurn};
     ghost use Rattle.uring_partner.specs.Parts.{GoesBy};
     ghost use Rattle.uring_partner.specs.Settling.{SettlesAll, SettlesAs, post_of};
@@ -56,7 +57,7 @@ impl MemoryPartner {
 
     /// A partner without files, entries, choices or events.
     pub fn new(alloc: Global) -> MemoryPartner
-        ensures state { told_state result ≡ Some (idle finite.empty []) }
+        ensures state { told_state result ≡ Some (idle empty_world []) }
         ensures log { told_log result ≡ Some [] }
         ensures plan { told_plan result ≡ [] }
         ensures faults { told_faults result ≡ 0 }
@@ -65,7 +66,7 @@ impl MemoryPartner {
         ensures personalities { given_by result ≡ 0 }
     {
         MemoryPartner {
-            files: Files::new(alloc),
+            world: World::new(alloc),
             pending: PendingList::new(alloc),
             tail: None,
             choices: VecDeque::new(alloc),
@@ -90,9 +91,9 @@ impl MemoryPartner {
 
     /// How many bytes the file of this number has.
     pub fn file_len(&self, number: u32) -> Option<usize>
-        ensures { result ≡ option_map length (finite.get (state_of self.now).world number) }
+        ensures { result ≡ option_map length (finite.get (state_of self.now).world.files number) }
     {
-        match self.files.get(number) {
+        match self.world.files.get(number) {
             Some(file) => Some(file.len()),
             None => None,
         }
@@ -100,9 +101,9 @@ impl MemoryPartner {
 
     /// The bytes of the file of this number.
     pub fn file_bytes(&self, number: u32) -> Option<&[u8]>
-        ensures { option_copied result ≡ finite.get (state_of self.now).world number }
+        ensures { option_copied result ≡ finite.get (state_of self.now).world.files number }
     {
-        match self.files.get(number) {
+        match self.world.files.get(number) {
             Some(file) => Some(file.as_slice()),
             None => None,
         }
@@ -212,7 +213,7 @@ impl MemoryPartner {
         self.log.try_reserve(1)?;
         let place = chosen_place(&self.pending, self.next_choice());
         let mut item = self.pending.take_out(place);
-        match settle(alloc, &mut self.files, &self.pending.items, &mut item) {
+        match settle(alloc, &mut self.world, &self.pending.items, &mut item) {
             Err(error) => {
                 self.pending.put_back(place, item);
                 Err(error)
@@ -279,10 +280,10 @@ impl MemoryPartner {
         to_submit: u32,
         side: &mut Q,
     ) -> Result<u32, AllocError>
-        ensures moves { (ms : List Move) × Enters file_machine told_log told_state Q.moved self.old self.new side.old side.new ms
+        ensures moves { (ms : List Move) × Enters world_machine told_log told_state Q.moved self.old self.new side.old side.new ms
             × IsCall (is_ok result) to_submit (Q.lists side.old) ms
             × IfOk result (λ n. n ≡ length (took ms))
-            × OnOk result (IsFullTurn file_machine (told_state self.old) (min to_submit (Q.ready side.old)) (Q.space side.old) (Q.lists side.old) ms) }
+            × OnOk result (IsFullTurn world_machine (told_state self.old) (min to_submit (Q.ready side.old)) (Q.space side.old) (Q.lists side.old) ms) }
         ensures ledger { self.new.ledger ≡ self.old.ledger }
     {
         let turn = self.begin_turn(side, to_submit)?;
@@ -311,26 +312,26 @@ impl Counts for MemoryPartner {
 
 impl Partner for MemoryPartner {
     ghost use Rattle.std.specs.Prelude.{length, refl};
-    ghost use Rattle.uring_model.specs.Machine.{Files};
-    ghost use Rattle.uring_model.specs.Partner.{file_machine};
-    ghost use Rattle.uring_model.specs.Refines.{AnyFiles, same_files, files_refine};
-    ghost use Rattle.uring_partner.specs.Told.{told_log, told_state, told_plan, told_errno, told_calls, put_in, puts_in};
+    ghost use Rattle.file_tree.specs.declared.world.World.{World};
+    ghost use Rattle.file_tree.specs.Worlds.{world_machine, files_of, AnyWorld, put_in};
+    ghost use Rattle.file_tree.proofs.Worlds.{any_refines};
+    ghost use Rattle.uring_partner.specs.Told.{told_log, told_state, told_plan, told_errno, told_calls, puts_in};
 
     ghost log = { told_log };
 
     ghost log_count = { λ p. length p.log.items };
 
-    ghost World = { Files };
+    ghost World = { World };
 
-    ghost machine = { file_machine };
+    ghost machine = { world_machine };
 
     ghost state = { told_state };
 
-    ghost view = { same_files };
+    ghost view = { files_of };
 
-    ghost Plain = { AnyFiles };
+    ghost Plain = { AnyWorld };
 
-    ghost refines = { files_refine };
+    ghost refines = { any_refines };
 
     ghost put = { put_in };
 
@@ -376,7 +377,7 @@ impl PendingCount for MemoryPartner {
 
 impl Seedable for MemoryPartner {
     fn put_file(&mut self, alloc: Global, number: u32, bytes: Buf) -> Result<(), PartnerError> {
-        if self.files.put(alloc, number, bytes).is_err() {
+        if self.world.put_file(alloc, number, bytes).is_err() {
             return Err(PartnerError::NoMemory);
         }
         Ok(())

@@ -3,7 +3,7 @@
 ghost use Rattle.std.specs.Prelude.{◌≡◌, ◌<◌, ◌&&◌, ◌||◌, not, [], ◌∷◌, length, slice_get, Some, ℕ};
 ghost use Rattle.std.specs.VecDeque.{deque_len};
 ghost use Rattle.uring_model.specs.Jobs.{linked};
-ghost use Rattle.uring_model.specs.Partner.{Cursor, job_of, named, ready_cursors};
+ghost use Rattle.uring_partner.specs.Served.{Cursor, job_of, named, ready_cursors};
 
 use crate::pending_list::PendingList;
 use std::collections::VecDeque;

@@ -5,9 +5,11 @@ ghost use Rattle.uring_base.specs.Loans.{part_of, with_part};
 ghost use Rattle.uring_model.specs.Operations.{op_in, answer_in, FindsAs, PartFits};
 ghost use Rattle.uring_model.specs.Partner.{job_of, has_unmarked};
 ghost use Rattle.uring_model.specs.Replay.{cuts, due, below};
-ghost use Rattle.uring_partner.specs.Settling.{answered_among, bare, settled_item};
+ghost use Rattle.uring_partner.specs.Settling.{answered_among, asked_in, bare, file_answer_among, settled_item, with_bytes};
 
 use crate::chain::{can_mark, cuts_next};
+use crate::settle_on_tree::settle_on_tree;
+use file_tree::{PathOperation, World, path_operation_of};
 use std::alloc::{AllocError, Global};
 use std::collections::VecDeque;
 use uring_base::Loan;
@@ -90,7 +92,14 @@ fn perform_on_loan(
     }
 }
 
-/// Answers an entry; `rest` are the other pending ones.
+/// What is answered to an entry, and a copy of the loan that it comes back with.
+#[derive(Drop)]
+pub struct Copied {
+    pub answered: Answered,
+    pub copy: Option<Loan>,
+}
+
+/// Answers an entry from the files; `rest` are the other pending ones.
 fn answer(
     alloc: Global,
     files: &mut Files,
@@ -100,10 +109,10 @@ fn answer(
 ) -> Result<Answered, AllocError>
     requires fits { PartFits operation (part_of item.old.taken.loan) }
     requires asks { op_in operation ≡ (job_of item.old.taken).op }
-    ensures result { IfOk result (λ answered. answered.result ≡ (answered_among files.old rest.now.items item.old).result) }
-    ensures marks { IfOk result (λ answered. answered.marks ≡ (answered_among files.old rest.now.items item.old).marks) }
-    ensures files { OnOk result (files.new ≡ (answered_among files.old rest.now.items item.old).world) }
-    ensures item { OnOk result (item.new ≡ settled_item item.old (answered_among files.old rest.now.items item.old).buf) }
+    ensures result { IfOk result (λ answered. answered.result ≡ (file_answer_among files.old rest.now.items item.old).result) }
+    ensures marks { IfOk result (λ answered. answered.marks ≡ (file_answer_among files.old rest.now.items item.old).marks) }
+    ensures files { OnOk result (files.new ≡ (file_answer_among files.old rest.now.items item.old).world) }
+    ensures item { OnOk result (item.new ≡ with_bytes item.old (file_answer_among files.old rest.now.items item.old).buf) }
     ensures err { OnErr result ((files.new ≡ files.old) × (item.new ≡ item.old)) }
 {
     if item.marked || item.cut {
@@ -114,7 +123,7 @@ fn answer(
 }
 
 /// A copy of a loan.
-fn copy_of(alloc: Global, loan: &Option<Loan>) -> Result<Option<Loan>, AllocError>
+pub fn copy_of(alloc: Global, loan: &Option<Loan>) -> Result<Option<Loan>, AllocError>
     ensures { IfOk result (λ copy. copy ≡ loan.now) }
 {
     match loan {
@@ -136,6 +145,62 @@ fn match_copy(copy: &mut Option<Loan>, loan: &Option<Loan>)
     }
 }
 
+/// Answers an entry from the files, with a copy of its loan.
+fn settle_on_files(
+    alloc: Global,
+    files: &mut Files,
+    rest: &VecDeque<Pending>,
+    operation: Operation,
+    item: &mut Pending,
+) -> Result<Copied, AllocError>
+    requires fits { PartFits operation (part_of item.old.taken.loan) }
+    requires asks { op_in operation ≡ (job_of item.old.taken).op }
+    ensures result { IfOk result (λ copied. copied.answered.result ≡ (file_answer_among files.old rest.now.items item.old).result) }
+    ensures marks { IfOk result (λ copied. copied.answered.marks ≡ (file_answer_among files.old rest.now.items item.old).marks) }
+    ensures copy { IfOk result (λ copied. copied.copy ≡ item.new.taken.loan) }
+    ensures files { OnOk result (files.new ≡ (file_answer_among files.old rest.now.items item.old).world) }
+    ensures item { OnOk result (item.new ≡ with_bytes item.old (file_answer_among files.old rest.now.items item.old).buf) }
+    ensures err { OnErr result ((files.new ≡ files.old) × (item.new ≡ item.old)) }
+{
+    let mut copy = copy_of(alloc, &item.taken.loan)?;
+    let answered = answer(alloc, files, rest, operation, item)?;
+    match_copy(&mut copy, &item.taken.loan);
+    Ok(Copied { answered, copy })
+}
+
+/// What an entry asks of the tree, if it isn't canceled.
+fn asked_of(item: &Pending) -> Option<PathOperation>
+    ensures { result ≡ asked_in item.now }
+{
+    if item.cut || item.marked {
+        return None;
+    }
+    path_operation_of(&item.taken)
+}
+
+/// Answers an entry, with a copy of its loan; `rest` are the other pending ones.
+fn answer_with_copy(
+    alloc: Global,
+    world: &mut World,
+    rest: &VecDeque<Pending>,
+    operation: Operation,
+    item: &mut Pending,
+) -> Result<Copied, AllocError>
+    requires fits { PartFits operation (part_of item.old.taken.loan) }
+    requires asks { op_in operation ≡ (job_of item.old.taken).op }
+    ensures result { IfOk result (λ copied. copied.answered.result ≡ (answered_among world.old rest.now.items item.old).result) }
+    ensures marks { IfOk result (λ copied. copied.answered.marks ≡ (answered_among world.old rest.now.items item.old).marks) }
+    ensures copy { IfOk result (λ copied. copied.copy ≡ item.new.taken.loan) }
+    ensures world { OnOk result (world.new ≡ (answered_among world.old rest.now.items item.old).world) }
+    ensures item { OnOk result (item.new ≡ settled_item item.old (answered_among world.old rest.now.items item.old).result (answered_among world.old rest.now.items item.old).buf) }
+    ensures err { OnErr result ((world.new ≡ world.old) × (item.new ≡ item.old)) }
+{
+    match asked_of(item) {
+        None => settle_on_files(alloc, &mut world.files, rest, operation, item),
+        Some(asked) => settle_on_tree(alloc, world, asked, &mut item.taken.loan),
+    }
+}
+
 /// One of two answers, by a test.
 fn either(test: bool, yes: bool, no: bool) -> bool
     ensures { result ≡ (if test then yes else no) }
@@ -143,28 +208,27 @@ fn either(test: bool, yes: bool, no: bool) -> bool
     if test { yes } else { no }
 }
 
-/// Settles an entry; `rest` are the other pending ones.
+/// Settles an entry; `rest` are the other pending ones. Where there is no memory, nothing has
+/// changed.
 pub fn settle(
     alloc: Global,
-    files: &mut Files,
+    world: &mut World,
     rest: &VecDeque<Pending>,
     item: &mut Pending,
 ) -> Result<Settlement, AllocError>
-    ensures result { IfOk result (λ settlement. settlement.answered.result ≡ (answered_among files.old rest.now.items item.old).result) }
-    ensures marks { IfOk result (λ settlement. settlement.answered.marks ≡ (answered_among files.old rest.now.items item.old).marks) }
-    ensures cut { IfOk result (λ settlement. settlement.cut ≡ cuts item.old.cut (job_of item.old.taken) (answered_among files.old rest.now.items item.old).result) }
+    ensures result { IfOk result (λ settlement. settlement.answered.result ≡ (answered_among world.old rest.now.items item.old).result) }
+    ensures marks { IfOk result (λ settlement. settlement.answered.marks ≡ (answered_among world.old rest.now.items item.old).marks) }
+    ensures cut { IfOk result (λ settlement. settlement.cut ≡ cuts item.old.cut (job_of item.old.taken) (answered_among world.old rest.now.items item.old).result) }
     ensures copy { IfOk result (λ settlement. settlement.copy ≡ item.new.taken.loan) }
-    ensures files { OnOk result (files.new ≡ (answered_among files.old rest.now.items item.old).world) }
-    ensures item { OnOk result (item.new ≡ settled_item item.old (answered_among files.old rest.now.items item.old).buf) }
-    ensures err { OnErr result ((files.new ≡ files.old) × (item.new ≡ item.old)) }
+    ensures world { OnOk result (world.new ≡ (answered_among world.old rest.now.items item.old).world) }
+    ensures item { OnOk result (item.new ≡ settled_item item.old (answered_among world.old rest.now.items item.old).result (answered_among world.old rest.now.items item.old).buf) }
+    ensures err { OnErr result ((world.new ≡ world.old) × (item.new ≡ item.old)) }
 {
     let operation = operation_of(&item.taken);
     let least = least_due(operation, &item.taken.loan);
     let where_bad = cuts_next(&item.taken, item.cut, true);
     let where_good = cuts_next(&item.taken, item.cut, false);
-    let mut copy = copy_of(alloc, &item.taken.loan)?;
-    let answered = answer(alloc, files, rest, operation, item)?;
-    match_copy(&mut copy, &item.taken.loan);
+    let Copied { answered, copy } = answer_with_copy(alloc, world, rest, operation, item)?;
     let cut = either(is_below(answered.result, least), where_bad, where_good);
     Ok(Settlement {
         answered,

@@ -1,6 +1,6 @@
 use Rattle.std.proofs.Common.{◌≡◌, IfOk, OnOk, subst}
 use Rattle.uring_model.specs.declared.pending.Pending.{Pending}
-use Rattle.uring_partner.specs.Settling.{settled_item}
+use Rattle.uring_partner.specs.Settling.{with_bytes}
 use Rattle.uring_partner.proofs.Among.{performed_among, on_loan}
 use Rattle.uring_partner.proofs.settle.answer.Goals as goal
 
@@ -21,6 +21,6 @@ returns-clause-files c =
 
 pub returns-clause-item : goal.returns-clause-item
 returns-clause-item c =
-    subst (λ y. OnOk c.perform_on_loan.result (◌≡◌ {A = Pending} (record { taken = record { entry = c.args.item.now.taken.entry; big = c.args.item.now.taken.big; large = c.args.item.now.taken.large; loan = c.perform_on_loan.new.loan }; cut = c.args.item.now.cut; marked = c.args.item.now.marked }) (settled_item c.args.item.now y.buf)))
+    subst (λ y. OnOk c.perform_on_loan.result (◌≡◌ {A = Pending} (record { taken = record { entry = c.args.item.now.taken.entry; big = c.args.item.now.taken.big; large = c.args.item.now.taken.large; loan = c.perform_on_loan.new.loan }; cut = c.args.item.now.cut; marked = c.args.item.now.marked }) (with_bytes c.args.item.now y.buf)))
     (performed_among c.args.files.now c.args.rest.now.items c.args.item.now c.args.operation c.finds_job-can_cancel.result c.if-item.false c.if-item-2.false c.requires.asks c.finds_job-can_cancel.ensures)
     (on_loan c.perform_on_loan.result c.args.item.now c.perform_on_loan.new.loan _ c.perform_on_loan.ensures.loan)

@@ -1,6 +1,6 @@
 use Rattle.std.proofs.Common.{◌≤◌, ◌+◌, ℕ, List, length, map}
 use Rattle.std.specs.VecDeque.{deque_len}
-use Rattle.uring_model.specs.Turn.{EntryEnd, ended, posts_of}
+use Rattle.uring_partner.specs.Served.{EntryEnd, ended, posts_of}
 use Rattle.uring_partner.specs.Parts.{GoesBy}
 use Rattle.uring_partner.specs.Told.{state_of}
 use Rattle.uring_partner.proofs.Turns.{Runs, WithRoom}

@@ -2,7 +2,7 @@ use Rattle.std.proofs.Common.{◌≡◌, List, ◌∷◌, [], ◌++◌, ap, subs
 use Rattle.std.specs.List.{insert}
 use mir.Val.{SFits}
 use Rattle.std.proofs.lemmas.Int.{to_z-of_z}
-use Rattle.uring_model.specs.Partner.{named, ready_cursors}
+use Rattle.uring_partner.specs.Served.{named, ready_cursors}
 use Rattle.uring_base.specs.declared.events.LogEvent.{LogEvent}
 use Rattle.uring_partner.specs.Told.{state_of}
 use Rattle.uring_partner.proofs.Marks.{cursor_removed, put_back}
@@ -35,8 +35,8 @@ returns-in-Ok-clause-ok c =
     let fits : SFits w32 c.in-Ok.settlement.answered.result = search rules in
     let chosen = subst (λ n. named n (ready_cursors [] c.args.self.now.pending.items.items) ≡ Some q.0) c.next_choice.ensures q.1 in
     let settles = code_settles (state_of c.args.self.now) q.0 c.chosen_place-place.result c.take_out-item.result c.take_out-item.new.self.items.items c.settle.new.item
-    _ c.in-Ok.settlement.answered.marks c.in-Ok.settlement.cut c.has_link-is_linked.result c.settle.new.files c.pass_on.new.self.items.items c.mark_if.new.self.items.items c.pass_on.new.tail c.pop_front-used.new.self.items
+    _ c.in-Ok.settlement.answered.marks c.in-Ok.settlement.cut c.has_link-is_linked.result c.settle.new.world c.pass_on.new.self.items.items c.mark_if.new.self.items.items c.pass_on.new.tail c.pop_front-used.new.self.items
     chosen q.2 m (c.take_out-item.ensures.item ∙ m.item c.take_out-item.result) c.take_out-item.ensures.rest
-    (to_z-of_z w32 c.in-Ok.settlement.answered.result fits ∙ c.in-Ok.ensures.result) c.in-Ok.ensures.marks c.in-Ok.ensures.cut c.in-Ok.ensures.files
+    (to_z-of_z w32 c.in-Ok.settlement.answered.result fits ∙ c.in-Ok.ensures.result) c.in-Ok.ensures.marks c.in-Ok.ensures.cut c.in-Ok.ensures.world
     c.in-Ok.ensures.item c.has_link-is_linked.ensures c.pass_on.ensures.pending c.pass_on.ensures.tail c.mark_if.ensures c.pop_front-used.ensures.rest in
     (_, settles, c.ending_of-ending.ensures.post, one_logged c.args.self.now.log.items c.try_reserve.new.self.items c.push_known.new.items.items _ _ c.in_ok-try_reserve.ensures.items c.ending_of-ending.ensures.event c.push_known.ensures)

@@ -1,7 +1,7 @@
 use Rattle.std.proofs.Common.{◌≡◌, ◌≤◌, ◌+◌, List, length, map}
 use Rattle.uring_base.specs.declared.events.Taken.{Taken}
 use Rattle.uring_model.specs.Moves.{Took}
-use Rattle.uring_model.specs.Turn.{take_all}
+use Rattle.uring_partner.specs.Served.{take_all}
 use Rattle.uring_partner.specs.Parts.{GoesBy}
 use Rattle.uring_partner.specs.Told.{state_of}
 use Rattle.uring_partner.proofs.memory.MemoryPartner.take_all.Given as goal

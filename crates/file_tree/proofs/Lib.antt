@@ -1,0 +1,4 @@
+pub mod Keys
+pub mod Paths
+pub mod Worlds
+pub mod Records
