@@ -24,6 +24,18 @@ pub struct WholeRead {
     end: u64,
 }
 
+impl WholeRead {
+    /// One from the front of the file on.
+    pub(crate) fn from_front(file: u32, len: u32) -> WholeRead
+        ensures { result ≡ record { file = file; end = len } }
+    {
+        WholeRead {
+            file,
+            end: u64::from(len),
+        }
+    }
+}
+
 impl Transfer for WholeRead {
     ghost use Rattle.rent_fs.specs.declared.error.FsError.TheVariants.{UnexpectedEof};
     ghost use Rattle.rent_fs.specs.WholePlans.{whole_error};

@@ -6,7 +6,7 @@ ghost use Rattle.rent_fs.specs.Outputs.{ended, synced, IsSmallFault};
 use crate::error::FsError;
 use rent_engine::OneAnswer;
 
-fn of_code(code: i32) -> Result<(), FsError>
+pub(crate) fn of_code(code: i32) -> Result<(), FsError>
     ensures ended { result ≡ ended code }
     ensures small { IsSmallFault result }
 {

@@ -49,8 +49,22 @@ fn fails<M: Transfer>(fault: WholeFault, buf: Buf) -> PlanStep<(Result<(), M::Er
 }
 
 impl<M: Transfer> WholeBuffer<M> {
+    /// One of that length, of which all is left.
+    pub(crate) fn new(transfer: M, len: u32) -> WholeBuffer<M>
+        ensures { result ≡ record { transfer = transfer; len = len; left = record { rest = len; breaks = 0 } } }
+    {
+        WholeBuffer {
+            transfer,
+            len,
+            left: Left {
+                rest: len,
+                breaks: 0,
+            },
+        }
+    }
+
     /// The operation for what is left.
-    fn request(&self, buf: Buf) -> Request
+    pub(crate) fn request(&self, buf: Buf) -> Request
         requires { self.now.len ≡ length buf }
         ensures request { result ≡ rest_request M.asks self.now buf }
         ensures placed { IsPlaced result }
@@ -64,7 +78,11 @@ impl<M: Transfer> WholeBuffer<M> {
     }
 
     /// Takes the result of its operation.
-    fn take(&mut self, alloc: Global, done: OpDone) -> PlanStep<(Result<(), M::Error>, Buf)>
+    pub(crate) fn take(
+        &mut self,
+        alloc: Global,
+        done: OpDone,
+    ) -> PlanStep<(Result<(), M::Error>, Buf)>
         ensures steps { StepsWith M.asks M.tells self.old done.result done.buf result self.new }
         ensures placed { IfAsks result IsPlaced }
     {
@@ -118,14 +136,7 @@ pub fn begin<M: Transfer>(
     ensures { result ≡ begun M.asks transfer buf }
 {
     let len = buf.len() as u32;
-    let plan = WholeBuffer {
-        transfer,
-        len,
-        left: Left {
-            rest: len,
-            breaks: 0,
-        },
-    };
+    let plan = WholeBuffer::new(transfer, len);
     if len == 0 {
         return Sequence::of_output(plan, (Ok(()), buf));
     }

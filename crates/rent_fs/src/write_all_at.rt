@@ -24,6 +24,18 @@ pub struct WholeWrite {
     end: u64,
 }
 
+impl WholeWrite {
+    /// One from the front of the file on.
+    pub(crate) fn from_front(file: u32, len: u32) -> WholeWrite
+        ensures { result ≡ record { file = file; end = len } }
+    {
+        WholeWrite {
+            file,
+            end: u64::from(len),
+        }
+    }
+}
+
 impl Transfer for WholeWrite {
     ghost use Rattle.rent_fs.specs.declared.error.FsError.TheVariants.{WriteZero};
     ghost use Rattle.rent_fs.specs.WholePlans.{whole_error};

@@ -1,4 +1,5 @@
 mod executors;
 mod files;
 mod helpers;
+mod paths;
 mod whole_buffers;

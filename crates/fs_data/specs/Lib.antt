@@ -1,0 +1,4 @@
+pub mod Kinds
+pub mod Modes
+pub mod Paths
+pub mod Records

@@ -1,0 +1,3 @@
+mod helpers;
+mod names;
+mod whole_files;
