@@ -5,9 +5,11 @@ This is a second reading of docs/DEFINITIONS.md, written from its sentences over
 from nothing in crates/: what is linked, severed and may settle, what one settling gives, and how
 a turn goes. It works out the report of the program's stored run, crates/uring_cli/stdin under the
 words of crates/uring_cli/args, and a table of scripts and reports, whose test in
-crates/run_tests/src/tests/scripts.rt runs each.
+crates/run_tests/src/tests/scripts.rt runs each. Of the scripts without choices and cancels that stay within the
+longest file it writes the outcomes alone into a second table, whose test in crates/std_tests/src/tests.rt runs each
+over the files of a folder.
 
-    python3 bench/script_table.py           writes both files
+    python3 bench/script_table.py           writes the three files
     python3 bench/script_table.py --check   says whether the files are what it would write
 """
 
@@ -15,8 +17,11 @@ import pathlib
 import sys
 
 LIMIT = 16_777_216
+# The formatter puts a row of at most so many characters on one line.
+ONE_LINE = 60
 CRATES = pathlib.Path(__file__).parent.parent / "crates"
 TABLE = CRATES / "run_tests/src/tests/scripts/table.rt"
+STD_TABLE = CRATES / "std_tests/src/tests/table.rt"
 PROGRAM = CRATES / "uring_cli"
 
 # Each row has the sizes of both rings, the position at which they begin, and a script.
@@ -316,6 +321,43 @@ def table():
     return "\n".join(text) + "\n"
 
 
+def std_rows():
+    """The scripts that real files answer as the definitions say, with the lines of their outcomes."""
+    for _, _, rows in GROUPS:
+        for sizes, line in rows:
+            if "choose" in line or "cancel" in line:
+                continue
+            script = line.split(";")
+            report = report_of(rounded_up(sizes[0]), rounded_up(sizes[1]), script)
+            outs = [told for told in report if told.startswith("out ")]
+            if not any(" -27 " in out for out in outs):
+                yield sizes, script, outs
+
+
+def std_table():
+    rows = list(std_rows())
+    text = [
+        "//! Scripts without choices and cancels, and their outcomes, which `bench/script_table.py` works",
+        "//! out from the definitions.",
+        "",
+        "/// The sizes of both rings and the position at which they begin, a script, and the first lines of",
+        "/// its report.",
+        "pub type Row = ((u32, u32, u32), &'static str, &'static str);",
+        "",
+        "/// Scripts that the files of a folder answer as those in memory do.",
+        f"pub fn rows() -> [Row; {len(rows)}] {{",
+        "    [",
+    ]
+    for sizes, script, outs in rows:
+        parts = [str(sizes), literal(script), literal(outs)]
+        row = "(" + ", ".join(parts) + ")"
+        if len(row) <= ONE_LINE:
+            text.append(f"        {row},")
+        else:
+            text += ["        (", *(f"            {part}," for part in parts), "        ),"]
+    return "\n".join(text + ["    ]", "}"]) + "\n"
+
+
 def stored_run():
     words = (PROGRAM / "args").read_text().split()[1:]
     options = dict(zip(words[::2], words[1::2]))
@@ -326,7 +368,7 @@ def stored_run():
 
 
 def main():
-    made = {TABLE: table(), PROGRAM / "stdout": stored_run()}
+    made = {TABLE: table(), STD_TABLE: std_table(), PROGRAM / "stdout": stored_run()}
     if sys.argv[1:] == ["--check"]:
         same = all(path.read_text() == text for path, text in made.items())
         print("the files are as worked out" if same else "the files differ")

@@ -12,14 +12,14 @@ use Rattle.uring_model.specs.declared.jobs.RunFault.{RunFault}
 use Rattle.uring_model.specs.declared.jobs.RunFault.TheVariants.{BadSize, BadJob, Stranger, Stalled, PartnerFault, NoMemory}
 use Rattle.uring_model.specs.Jobs.{Job, model_job, model_jobs, is_success, is_valid_job}
 use Rattle.uring_model.specs.Moves.{Move, Took, journal_of, log_of}
-use Rattle.uring_model.specs.Partner.{PartnerState, file_machine, idle}
+use Rattle.file_tree.specs.Worlds.{AnyWorld, files_of}
+use Rattle.uring_partner.specs.Served.{PartnerState, world_machine, idle, turn}
 use Rattle.uring_model.specs.Progress.{EachSettles, moves_of_turn}
-use Rattle.uring_model.specs.Refines.{AnyFiles, IsPlainAndIdle, same_files}
+use Rattle.uring_model.specs.Refines.{IsPlainAndIdle}
 use Rattle.uring_model.specs.Replay.{Row, Open, Done, ReplayState, replay, all_done, IsBusy, IsWhole, first_state, outcomes, table}
 use Rattle.uring_model.specs.Chosen.{IsChosen}
 use Rattle.uring_model.specs.Rows.{outcome_told}
 use Rattle.uring_model.specs.Schedule.{EntryEnd, ByPost, Quietly, ended}
-use Rattle.uring_model.specs.Turn.{turn}
 use Rattle.run_loop.specs.Entries.{first_bad}
 use Rattle.run_loop.specs.Memory.{replayed_outcomes}
 use Rattle.run_loop.specs.Rounds.{is_partner_fault}
@@ -31,8 +31,9 @@ use Rattle.uring_text.specs.Status.{status_of}
 use Rattle.uring_text.specs.declared.status.Status.TheVariants as ends
 use Rattle.job_generator.specs.Generator.{generated}
 use Rattle.job_generator.specs.Journal.{empty_files, bytes_in, line, negatives, turns_in}
-use Rattle.job_generator.specs.Laws.{Round, IsGroup, GroupsInOrder, JobsAreValid, TurnsSettleAll, moves_in, journal_in}
-use Rattle.uring_cli.specs.Generated.{RanGenerated, negative_outcomes, summary_told}
+use Rattle.job_generator.specs.Laws.{Round, IsGroup, GroupsInOrder, JobsAreValid, moves_in, journal_in}
+use Rattle.job_generator.proofs.Settled.{turn_settles_all}
+use Rattle.uring_cli.specs.Generated.{RanGenerated, seeded_world, negative_outcomes, summary_told}
 
 -- the jobs
 
@@ -49,7 +50,7 @@ valid_run valid count jobs e = record { size = refl; jobs_valid = ap (first_bad 
 
 -- the faults
 
-pub lacking : (fault : RunFault) (given after : MemoryPartner) (jobs : List code.Job) (capacity idle : ℕ) → IsPlainAndIdle AnyFiles (state_of given) → RunSays file_machine same_files AnyFiles told_log told_state given after jobs capacity idle (Err fault) → is_partner_fault fault ≡ false → status_of fault ≡ ends.NoMemory
+pub lacking : (fault : RunFault) (given after : MemoryPartner) (jobs : List code.Job) (capacity idle : ℕ) → IsPlainAndIdle AnyWorld (state_of given) → RunSays world_machine files_of AnyWorld told_log told_state given after jobs capacity idle (Err fault) → is_partner_fault fault ≡ false → status_of fault ≡ ends.NoMemory
 lacking BadSize given after jobs capacity idle rests says none = absurd says.fault
 lacking (BadJob n) given after jobs capacity idle rests says none = absurd says.fault
 lacking (Stranger u) given after jobs capacity idle rests says none = let x = (says.memory (state_of given) refl rests).2.fault.0 in absurd cc
@@ -63,7 +64,7 @@ rounds_of : ℕ → PartnerState → List (List Taken) → List Round
 rounds_of room a [] = []
 rounds_of room a (ts ∷ tss) = record { taken = ts; ends = (turn ts room a).ends } ∷ rounds_of room (turn ts room a).state tss
 
-same_moves : (room : ℕ) (a : PartnerState) (tss : List (List Taken)) → moves_in (rounds_of room a tss) ≡ turn_moves file_machine room a tss
+same_moves : (room : ℕ) (a : PartnerState) (tss : List (List Taken)) → moves_in (rounds_of room a tss) ≡ turn_moves world_machine room a tss
 unfolding rounds_of
 same_moves room a [] = refl
 same_moves room a (ts ∷ tss) = ap (λ l. moves_of_turn (length ts) ts (turn ts room a).ends ++ l) (same_moves room (turn ts room a).state tss)
@@ -77,29 +78,29 @@ past_ends [] ms h = h
 past_ends (ByPost c ∷ es) ms h = past_ends es ms h
 past_ends (Quietly n ∷ es) ms h = past_ends es ms h
 
-none_owed : (room : ℕ) (a : PartnerState) (tss : List (List Taken)) → EachSettles true (turn_moves file_machine room a tss) → ⊥
+none_owed : (room : ℕ) (a : PartnerState) (tss : List (List Taken)) → EachSettles true (turn_moves world_machine room a tss) → ⊥
 none_owed room a [] h = cc
 none_owed room a (ts ∷ tss) h = let x = h.0 in cc
 
-some_ends : (room : ℕ) (a : PartnerState) (tss : List (List Taken)) (es : List EntryEnd) → EachSettles true (map ended es ++ turn_moves file_machine room a tss) → (0 < length es) × EachSettles false (turn_moves file_machine room a tss)
+some_ends : (room : ℕ) (a : PartnerState) (tss : List (List Taken)) (es : List EntryEnd) → EachSettles true (map ended es ++ turn_moves world_machine room a tss) → (0 < length es) × EachSettles false (turn_moves world_machine room a tss)
 some_ends room a tss [] h = absurd (none_owed room a tss h)
-some_ends room a tss (ByPost c ∷ es) h = (omega arith, past_ends es (turn_moves file_machine room a tss) h)
-some_ends room a tss (Quietly n ∷ es) h = (omega arith, past_ends es (turn_moves file_machine room a tss) h)
+some_ends room a tss (ByPost c ∷ es) h = (omega arith, past_ends es (turn_moves world_machine room a tss) h)
+some_ends room a tss (Quietly n ∷ es) h = (omega arith, past_ends es (turn_moves world_machine room a tss) h)
 
 append_thrice : (xs ys zs : List Move) → (xs ++ ys) ++ zs ≡ xs ++ (ys ++ zs)
 append_thrice [] ys zs = refl
 append_thrice (x ∷ xs) ys zs = ap (λ l. x ∷ l) (append_thrice xs ys zs)
 
-all_groups : TurnsSettleAll → (a : PartnerState) (tss : List (List Taken)) → a.pending ≡ [] → a.choices ≡ [] → AllByRecursion (λ ts. length ts ≤ 64) tss → EachSettles false (turn_moves file_machine 128 a tss) → AllByRecursion IsGroup (rounds_of 128 a tss)
+all_groups : (a : PartnerState) (tss : List (List Taken)) → a.pending ≡ [] → a.choices ≡ [] → AllByRecursion (λ ts. length ts ≤ 64) tss → EachSettles false (turn_moves world_machine 128 a tss) → AllByRecursion IsGroup (rounds_of 128 a tss)
 unfolding rounds_of
-all_groups settle a [] rests none fits settles = tt
-all_groups settle a (ts ∷ tss) rests none fits settles =
+all_groups a [] rests none fits settles = tt
+all_groups a (ts ∷ tss) rests none fits settles =
     let es = (turn ts 128 a).ends in
     let b = (turn ts 128 a).state in
-    let all = settle 128 ts a rests none (omega (arith, fits.0)) in
-    let behind : EachSettles true (map ended es ++ turn_moves file_machine 128 b tss) = past_takes true ts (map ended es ++ turn_moves file_machine 128 b tss) (subst (EachSettles true) (append_thrice (map Took ts) (map ended es) (turn_moves file_machine 128 b tss)) settles.1) in
+    let all = turn_settles_all world_machine (λ w t. refl) 128 ts a rests none (omega (arith, fits.0)) in
+    let behind : EachSettles true (map ended es ++ turn_moves world_machine 128 b tss) = past_takes true ts (map ended es ++ turn_moves world_machine 128 b tss) (subst (EachSettles true) (append_thrice (map Took ts) (map ended es) (turn_moves world_machine 128 b tss)) settles.1) in
     let some = some_ends 128 b tss es behind in
-    (record { some = (let n = all.0 in let m = some.0 in omega (arith, n, m)); fits = fits.0; all = all.0 }, all_groups settle b tss all.1 all.2 fits.1 some.1)
+    (record { some = (let n = all.ends in let m = some.0 in omega (arith, n, m)); fits = fits.0; all = all.ends }, all_groups b tss all.pending all.choices fits.1 some.1)
 
 -- the outcomes
 
@@ -132,33 +133,33 @@ same_log (Some l) p q xs ys e a b c =
     some_is xs ys (ap (λ x. Some (x ++ xs)) (sym nil) ∙ sym a ∙ sym b ∙ c ∙ ap (λ x. Some (x ++ ys)) nil)
 
 -- what the summary's text is compared with
-pub ran : GroupsInOrder → TurnsSettleAll → JobsAreValid → (count : ℕ) (jobs : List code.Job) (given after : MemoryPartner) (report : Report) (text : List ℕ)
-    → jobs ≡ generated count → state_of given ≡ idle empty_files [] → given.log.items ≡ []
-    → RanInTurns file_machine AnyFiles told_log 64 128 (state_of given) given after
-    → RunSays file_machine same_files AnyFiles told_log told_state given after jobs 64 16 (Ok report)
-    → text ≡ summary_told count report (bytes_in (state_of after).world)
+pub ran : GroupsInOrder → JobsAreValid → (count : ℕ) (jobs : List code.Job) (given after : MemoryPartner) (report : Report) (text : List ℕ)
+    → jobs ≡ generated count → state_of given ≡ idle seeded_world [] → given.log.items ≡ []
+    → RanInTurns world_machine AnyWorld told_log 64 128 (state_of given) given after
+    → RunSays world_machine files_of AnyWorld told_log told_state given after jobs 64 16 (Ok report)
+    → text ≡ summary_told count report (bytes_in (state_of after).world.files)
     → RanGenerated (λ bytes. text ≡ bytes) count after
-ran order settle valid count jobs given after report text made state fresh turned says told =
+ran order valid count jobs given after report text made state fresh turned says told =
     let a = state_of given in
-    let rests : IsPlainAndIdle AnyFiles a = record { pending = ap (λ x. x.pending) state; tail = ap (λ x. x.tail) state; plain = tt } in
-    let ms = turn_moves file_machine 128 a turned.taken in
+    let rests : IsPlainAndIdle AnyWorld a = record { pending = ap (λ x. x.pending) state; tail = ap (λ x. x.tail) state; plain = tt } in
+    let ms = turn_moves world_machine 128 a turned.taken in
     let log_is : after.log.items ≡ log_of ms = some_is after.log.items (given.log.items ++ log_of ms) turned.logs ∙ ap (λ l. l ++ log_of ms) fresh in
     let same : log_of says.ran.moves ≡ after.log.items = ap (λ l. l ++ log_of says.ran.moves) (sym fresh) ∙ sym (some_is after.log.items (given.log.items ++ log_of says.ran.moves) says.ran.logs) in
     let journal : journal_of (log_of says.ran.moves) ≡ journal_of after.log.items = ap journal_of same in
     let rounds = rounds_of 128 a turned.taken in
     let in_rounds : journal_of after.log.items ≡ journal_in rounds = ap journal_of log_is ∙ ap (λ l. journal_of (log_of l)) (sym (same_moves 128 a turned.taken)) in
-    let each = all_groups settle a turned.taken (ap (λ x. x.pending) state) (ap (λ x. x.choices) state) turned.fits (turned.settles rests) in
+    let each = all_groups a turned.taken (ap (λ x. x.pending) state) (ap (λ x. x.choices) state) turned.fits (turned.settles rests) in
     let m = says.memory a refl rests in
     let x = m.2 in
     let whole = x.report.whole in
     let model_is : model_jobs jobs ≡ model_jobs (generated count) = ap model_jobs made in
-    let world : a.world ≡ empty_files = ap (λ y. y.world) state in
+    let world : a.world.files ≡ empty_files = ap (λ y. y.world.files) state in
     let replays : replay (model_jobs (generated count)) empty_files (journal_of after.log.items) ≡ Some x.end = sym (λ i. replay (model_is i) (world i) (journal i)) ∙ x.replays in
     let chosen : IsChosen (journal_of after.log.items) [] false (first_state (model_jobs (generated count)) empty_files) =
     subst (λ y. IsChosen (journal_of after.log.items) y false (first_state (model_jobs (generated count)) empty_files)) (ap (λ y. y.choices) state)
     (subst (λ y. IsChosen (journal_of after.log.items) a.choices false (first_state (model_jobs (generated count)) y)) world
-    (subst (λ y. IsChosen (journal_of after.log.items) a.choices false (first_state y a.world)) model_is
-    (subst (λ y. IsChosen y a.choices false (first_state (model_jobs jobs) a.world)) journal x.chosen))) in
+    (subst (λ y. IsChosen (journal_of after.log.items) a.choices false (first_state y a.world.files)) model_is
+    (subst (λ y. IsChosen y a.choices false (first_state (model_jobs jobs) a.world.files)) journal x.chosen))) in
     let size : length jobs ≡ length (model_jobs (generated count)) = ap length made ∙ sym (length-map (generated count) model_job) in
     let busy : IsBusy 64 (length (model_jobs (generated count))) 0 (journal_of after.log.items) = subst (λ n. IsBusy 64 n 0 (journal_of after.log.items)) size (subst (IsBusy 64 (length jobs) 0) journal says.full.busy) in
     let goes = order (model_jobs (generated count)) empty_files rounds x.end (none_quiet (generated count) (valid count).0) each (subst (IsBusy 64 (length (model_jobs (generated count))) 0) in_rounds busy)
@@ -167,7 +168,7 @@ ran order settle valid count jobs given after report text made state fresh turne
     let same_size : length (model_jobs jobs) ≡ length (model_jobs (generated count)) = ap length model_is in
     let negative : negative_outcomes report.outcomes.items ≡ negatives x.end.rows = same_negatives (model_jobs jobs) x.end.rows report.outcomes.items (omega (arith, rows_few, same_size)) whole.settled (x.report.outcomes ∙ ap (replayed_outcomes (model_jobs jobs)) (whole_table x.end whole)) in
     let turns : report.journal.items ≡ journal_of after.log.items = says.report.journal ∙ journal in
-    let world_is : (state_of after).world ≡ x.end.files = ap (λ y. y.world) (some_is (state_of after) m.0 m.1) ∙ sym x.files in
+    let world_is : (state_of after).world.files ≡ x.end.files = ap (λ y. y.world.files) (some_is (state_of after) m.0 m.1) ∙ sym x.files in
     record {
       log = after.log.items;
       logged = refl;
@@ -183,8 +184,8 @@ state_is p a e = some_is (state_of p) a e
 pub log_is : (p : MemoryPartner) (l : List LogEvent) → told_log p ≡ Some l → p.log.items ≡ l
 log_is p l e = some_is p.log.items l e
 
-pub rests : (p : MemoryPartner) → told_state p ≡ Some (idle empty_files []) → IsPlainAndIdle AnyFiles (state_of p)
-rests p e = let s = state_is p (idle empty_files []) e in record { pending = ap (λ x. x.pending) s; tail = ap (λ x. x.tail) s; plain = tt }
+pub rests : (p : MemoryPartner) → told_state p ≡ Some (idle seeded_world []) → IsPlainAndIdle AnyWorld (state_of p)
+rests p e = let s = state_is p (idle seeded_world []) e in record { pending = ap (λ x. x.pending) s; tail = ap (λ x. x.tail) s; plain = tt }
 
 -- what holds of the number that the words give
 pub at_count : (given : Option ℕ) (count : ℕ) (Q : ℕ → Type 0) → given ≡ Some count → Q count → IfSome given Q

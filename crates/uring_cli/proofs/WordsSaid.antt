@@ -1,5 +1,5 @@
 -- What is read of the command's words is what they say.
-use Rattle.std.proofs.Common.{◌≡◌, ◌≢◌, ℕ, zero, suc, ◌+◌, ◌*◌, ◌<◌, ◌≤◌, ◌∙◌, ◌⊎◌, inl, inr, min, Bool, true, false, cond, ◌&&◌, List, [], ◌∷◌, length, Some, None, refl, ap, sym, subst, arith}
+use Rattle.std.proofs.Common.{◌≡◌, ◌≢◌, ℕ, zero, suc, ◌+◌, ◌*◌, ◌<◌, ◌≤◌, ◌∙◌, ◌⊎◌, inl, inr, min, Bool, true, false, cond, ◌&&◌, ◌||◌, List, [], ◌∷◌, length, Some, None, refl, ap, sym, subst, arith}
 use Rattle.std.specs.Prelude.{Option, All, AllPairs, Contains, bytes_eq, codes, decimal, flat_map, is_none, nat_lt, option_map, slice_index_or, unwrap_or}
 use Rattle.std.proofs.lemmas.Bool.{and_parts, ltb-true, lt-ltb}
 use Rattle.std.proofs.lemmas.List.Elements.{All-nil, All-cons, All-head, All-tail, All-weaker, Contains-append_right}
@@ -11,9 +11,9 @@ use Rattle.uring_cli.specs.declared.words.TheConstants.{MAX_NUMBER, DEFAULT_ENTR
 use Rattle.uring_text.specs.Lines.{number_below}
 use Rattle.uring_text.specs.Script.{◌>>=◌}
 use Rattle.uring_text.specs.Laws.{NumbersAreDecimal}
-use Rattle.uring_cli.specs.Words.{nothing_given, with_option, given_by, in_force, options_of}
+use Rattle.uring_cli.specs.Words.{nothing_given, with_option, given_by, in_force, is_command, options_of}
 use Rattle.uring_cli.proofs.WordLemmas.{one_option}
-use Rattle.uring_cli.specs.Grammar.{Name, Sq, Cq, Start, Idle, Setting, name_text, setting_words, least, IsSettingInRange, IsInForce, SaysOptions}
+use Rattle.uring_cli.specs.Grammar.{Name, Sq, Cq, Start, Idle, Setting, IsCommand, name_text, setting_words, least, IsSettingInRange, IsInForce, SaysOptions}
 
 -- ---- what a value that was found tells of the steps on the way to it
 
@@ -213,17 +213,35 @@ in_force_is name default settings after stands =
       | inr p ↦ inl (subst (λ o. Contains settings (setting_of name (unwrap_or o default))) (sym p.2) p.3)
     ]
 
+either_true : (a b : Bool) → (a || b) ≡ true → (a ≡ true) ⊎ (b ≡ true)
+either_true true b e = inl refl
+either_true false b e = inr e
+
+command_known : (word : List ℕ) → is_command word ≡ true → IsCommand word
+command_known word e =
+    elim (either_true (bytes_eq word (codes "run")) (bytes_eq word (codes "std")) e) [
+      | inl p ↦ inl (same_bytes word (codes "run") p)
+      | inr p ↦ inr (same_bytes word (codes "std") p)
+    ]
+
+command_read : (word : List ℕ) (words : List (List ℕ)) → IsCommand word → options_of (word ∷ words) ≡ option_map in_force (given_by nothing_given words)
+unfolding options_of
+command_read word words (inl p) = ap (λ w. options_of (w ∷ words)) p
+command_read word words (inr p) = ap (λ w. options_of (w ∷ words)) p
+
 pub options_found : NumbersAreDecimal → (words : List (List ℕ)) (options : Options) → options_of words ≡ Some options → SaysOptions words options
 unfolding options_of
 options_found numbers [] options e = absurd cc
 options_found numbers (word ∷ words) options e =
-    elim (chosen (bytes_eq word (codes "run")) (option_map in_force (given_by nothing_given words)) None (Some options) e) [
+    elim (chosen (is_command word) (option_map in_force (given_by nothing_given words)) None (Some options) e) [
       | inr p ↦ let none = p.1 in absurd cc
       | inl p ↦ mapped (given_by nothing_given words) in_force options p.1 (λ after is_given is_options.
           let reads = given_found numbers nothing_given after words is_given in
           subst (λ (o : Options). SaysOptions (word ∷ words) o) is_options (record {
+            command = word;
+            known = command_known word p.0;
             settings = reads.settings;
-            spelled = ap (λ w. w ∷ words) (same_bytes word (codes "run") p.0) ∙ ap (λ ws. codes "run" ∷ ws) reads.spelled;
+            spelled = ap (λ ws. word ∷ ws) reads.spelled;
             once = reads.once;
             in_range = reads.in_range;
             sq = in_force_is Sq DEFAULT_ENTRIES reads.settings after (reads.stands Sq);
@@ -305,4 +323,4 @@ options_again numbers words options says =
     let cq = ap (λ n. unwrap_or after.cq (min (2 * n) MAX_NUMBER)) sq ∙ in_force_again Cq (min (2 * options.sq) MAX_NUMBER) options.cq says.settings says.once says.cq in
     let start = in_force_again Start 0 options.start says.settings says.once says.start in
     let idle = in_force_again Idle DEFAULT_IDLE options.idle says.settings says.once says.idle in
-    ap options_of says.spelled ∙ ap (λ o. option_map in_force o) read ∙ ap (λ (o : Options). Some o) (made_of _ _ _ _ options sq cq start idle)
+    ap options_of says.spelled ∙ command_read says.command _ says.known ∙ ap (λ o. option_map in_force o) read ∙ ap (λ (o : Options). Some o) (made_of _ _ _ _ options sq cq start idle)

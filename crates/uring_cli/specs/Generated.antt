@@ -1,6 +1,5 @@
 -- The command `gen`: its words, and what stands behind each of its statuses.
 use Rattle.std.specs.Prelude.{◌≡◌, ℕ, suc, ◌+◌, Bool, false, nat_lt, if◌then◌else◌, List, [], ◌∷◌, ◌++◌, Option, Some, None, bytes_eq, codes, ⊤}
-use Rattle.std.specs.FinMap as finite
 use Rattle.std.specs.Io.KnownBytes.{Appends}
 use Rattle.uring_base.specs.declared.events.LogEvent.{LogEvent}
 use Rattle.uring_model.specs.declared.jobs.Outcome.{Outcome}
@@ -9,6 +8,8 @@ use Rattle.uring_model.specs.Jobs.{is_success}
 use Rattle.uring_model.specs.Moves.{journal_of}
 use Rattle.uring_model.specs.Replay.{ReplayState}
 use Rattle.uring_model.specs.Partner.{idle}
+use Rattle.file_tree.specs.Worlds.{empty_world, put_in}
+use Rattle.file_tree.specs.declared.world.World.{World}
 use Rattle.uring_partner.specs.declared.memory.MemoryPartner.{MemoryPartner}
 use Rattle.uring_partner.specs.Told.{state_of, told_state, told_log, told_plan}
 use Rattle.uring_streams.specs.Bytes.{AppendsFront}
@@ -44,9 +45,13 @@ abbrev pub summary_told : ℕ → Report → ℕ → List ℕ
 summary_told count report bytes =
     line (codes "jobs") count ++ line (codes "negative") (negative_outcomes report.outcomes.items) ++ line (codes "turns") (turns_in report.journal.items) ++ line (codes "bytes") bytes
 
+-- files 0 to 3, without bytes, put into an empty world
+abbrev pub seeded_world : World
+seeded_world = put_in 3 [] (put_in 2 [] (put_in 1 [] (put_in 0 [] empty_world)))
+
 -- the partner is as a new one
 pub record IsNew (p : MemoryPartner) : Type 0 where
-  pub state : told_state p ≡ Some (idle finite.empty [])
+  pub state : told_state p ≡ Some (idle empty_world [])
   pub log : told_log p ≡ Some []
   pub plan : told_plan p ≡ []
 
@@ -57,7 +62,7 @@ pub record RanGenerated (Wrote : List ℕ → Type 0) (count : ℕ) (p : MemoryP
   pub logged : told_log p ≡ Some log
   pub end : ReplayState
   pub journal : IsJournalOf count (journal_of log) end
-  pub files : (state_of p).world ≡ end.files
+  pub files : (state_of p).world.files ≡ end.files
   pub wrote : Wrote (summary count (journal_of log) end)
 
 -- what was done at a status, and what was written; no other status comes

@@ -38,10 +38,16 @@ IsSettingInRange setting = (least setting.name ≤ setting.number) × (setting.n
 abbrev pub IsInForce : List Setting → Name → ℕ → ℕ → Type 0
 IsInForce settings name default number = Contains settings (record { name = name; number = number }) ⊎ (All (λ s. s.name ≢ name) settings × (number ≡ default))
 
--- The words are `run` and settings, of which no two have one name; these and the defaults make the options.
+-- a command that runs a script on the program's own thread
+abbrev pub IsCommand : List ℕ → Type 0
+IsCommand word = (word ≡ codes "run") ⊎ (word ≡ codes "std")
+
+-- The words are `run` or `std` and settings, of which no two have one name; these and the defaults make the options.
 pub record SaysOptions (words : List (List ℕ)) (options : Options) : Type 0 where
+  pub command : List ℕ
+  pub known : IsCommand command
   pub settings : List Setting
-  pub spelled : words ≡ codes "run" ∷ flat_map setting_words settings
+  pub spelled : words ≡ command ∷ flat_map setting_words settings
   pub once : AllPairs (λ s t. s.name ≢ t.name) settings
   pub in_range : All IsSettingInRange settings
   pub sq : IsInForce settings Sq DEFAULT_ENTRIES options.sq

@@ -1,5 +1,5 @@
--- The words of the command, as they are read: `run`, then options in any order, each a name and a number, and none twice.
-use Rattle.std.specs.Prelude.{ℕ, ◌+◌, ◌*◌, min, Bool, false, List, [], ◌∷◌, Option, Some, None, is_none, unwrap_or, option_map, bytes_eq, codes, nat_lt, ◌&&◌, if◌then◌else◌}
+-- The words of the commands, as they are read: `run` or `std`, then options in any order, each a name and a number, and none twice.
+use Rattle.std.specs.Prelude.{ℕ, ◌+◌, ◌*◌, min, Bool, false, List, [], ◌∷◌, Option, Some, None, is_none, unwrap_or, option_map, bytes_eq, codes, nat_lt, ◌&&◌, ◌||◌, if◌then◌else◌}
 use Rattle.uring_text.specs.Lines.{number_below}
 use Rattle.uring_text.specs.Script.{◌>>=◌}
 use Rattle.uring_cli.specs.declared.words.Given.{Given}
@@ -36,15 +36,24 @@ in_force given = record {
   idle = unwrap_or given.idle DEFAULT_IDLE;
 }
 
+-- the word names a command that runs a script on the program's own thread: over files in memory, or over those of a folder
+abbrev pub is_command : List ℕ → Bool
+is_command word = bytes_eq word (codes "run") || bytes_eq word (codes "std")
+
 -- the options of the command's words, where these are such
 unfoldable pub options_of : List (List ℕ) → Option Options
 options_of [] = None
-options_of (word ∷ words) = if bytes_eq word (codes "run") then option_map in_force (given_by nothing_given words) else None
+options_of (word ∷ words) = if is_command word then option_map in_force (given_by nothing_given words) else None
 
 -- the options of the command `shared`: those of `run` but `--idle`, since such a run isn't given up
 abbrev pub without_idle : Option Given → Option Options
 without_idle None = None
 without_idle (Some given) = if is_none given.idle then Some (in_force given) else None
+
+-- the first word is `std`
+abbrev pub asks_for_folder : List (List ℕ) → Bool
+asks_for_folder [] = false
+asks_for_folder (name ∷ words) = bytes_eq name (codes "std")
 
 -- the first word is `shared`
 abbrev pub asks_for_threads : List (List ℕ) → Bool

@@ -1,13 +1,12 @@
 //! The jobs of a number, run over a new partner.
 
 ghost use Rattle.std.specs.Prelude.{◌≡◌, ◌↔◌, ◌⊎◌, [], None, Some, IfOk, IfErr, IfSome, OnOk};
-ghost use Rattle.std.specs.FinMap as finite;
 ghost use Rattle.uring_base.specs.Causes.{Rose};
 ghost use Rattle.uring_model.specs.Partner.{idle};
+ghost use Rattle.file_tree.specs.Worlds.{empty_world};
 ghost use Rattle.uring_partner.specs.Told.{told_state, told_log, told_plan};
 ghost use Rattle.uring_text.specs.declared.status.Status.TheVariants.{NoMemory, Usage, WriteFault};
-ghost use Rattle.job_generator.specs.Journal.{empty_files};
-ghost use Rattle.uring_cli.specs.Generated.{count_of, IsNew, RanGenerated, GeneratedAs};
+ghost use Rattle.uring_cli.specs.Generated.{count_of, seeded_world, IsNew, RanGenerated, GeneratedAs};
 
 use crate::gen_words::count_of;
 use crate::summary::{all_bytes, summary_text};
@@ -22,8 +21,8 @@ use uring_text::Status;
 
 /// Puts files 0 to 3 in, without bytes.
 fn put_empty_files(alloc: Global, partner: &mut MemoryPartner) -> Result<(), PartnerError>
-    requires { told_state partner.old ≡ Some (idle finite.empty []) }
-    ensures ok { OnOk result (told_state partner.new ≡ Some (idle empty_files [])) }
+    requires { told_state partner.old ≡ Some (idle empty_world []) }
+    ensures ok { OnOk result (told_state partner.new ≡ Some (idle seeded_world [])) }
     ensures log { told_log partner.new ≡ told_log partner.old }
     ensures plan { told_plan partner.new ≡ told_plan partner.old }
     ensures memory { IfErr result (λ e. e ≡ PartnerError.NoMemory) }

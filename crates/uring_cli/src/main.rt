@@ -1,9 +1,9 @@
 //! The program: from its words and the bytes of a script to a status and the bytes of a report.
 #![tactic(auto)]
 
-ghost use Rattle.std.specs.Prelude.{◌≡◌, ◌≢◌, ◌⊎◌, ◌↔◌, None};
+ghost use Rattle.std.specs.Prelude.{◌≡◌, ◌≢◌, ◌⊎◌, ◌↔◌, None, false};
 ghost use Rattle.uring_text.specs.declared.status.Status.TheVariants.{NoMemory, PartnerFault, Usage};
-ghost use Rattle.uring_cli.specs.Words.{options_of, shared_options_of};
+ghost use Rattle.uring_cli.specs.Words.{asks_for_folder, options_of, shared_options_of};
 ghost use Rattle.uring_cli.specs.Generated.{count_of};
 
 mod execute;
@@ -32,9 +32,10 @@ use std::sync::Wait;
 use std::thread::Threads;
 use uring_base::Buf;
 use uring_partner::MemoryPartner;
+use uring_std::StdPartner;
 pub use uring_streams::{MemorySink, MemorySource, Sink, Source, StdSink, StdSource};
 pub use uring_text::{Status, status_text};
-use words::asks_for_threads;
+use words::{asks_for_folder, asks_for_threads};
 pub use words::{
     DEFAULT_ENTRIES, DEFAULT_IDLE, MAX_NUMBER, Options, Word, options_of, shared_options_of,
 };
@@ -61,6 +62,25 @@ fn run_script(rt: &HostRuntime, words: &[Word]) -> Status
     let mut input = StdSource::new(reader);
     let mut out = StdSink::new(rt.stdout());
     let mut partner = MemoryPartner::new(alloc);
+    ring_main(alloc, words, &mut input, &mut out, &mut partner)
+}
+
+/// Runs a script over standard input and output, and a new partner over the files of the folder in
+/// which the program was started.
+fn run_in_folder(rt: &HostRuntime, words: &[Word]) -> Status
+    ensures usage { result ≡ Usage → options_of words.now ≡ None }
+    ensures others { options_of words.now ≡ None → (result ≡ Usage) ⊎ (result ≡ NoMemory) }
+{
+    let alloc = rt.alloc();
+    let Ok(reader) = BufReader::new(alloc, rt.stdin()) else {
+        return Status::NoMemory;
+    };
+    let Ok(folder) = Buf::from_slice(alloc, b".") else {
+        return Status::NoMemory;
+    };
+    let mut input = StdSource::new(reader);
+    let mut out = StdSink::new(rt.stdout());
+    let mut partner = StdPartner::new(alloc, *rt, folder);
     ring_main(alloc, words, &mut input, &mut out, &mut partner)
 }
 
@@ -94,16 +114,18 @@ fn run_number(rt: &HostRuntime, words: &[Word]) -> Status
     gen_main(alloc, words, &mut out, &mut partner)
 }
 
-/// Runs the command that the words say.
+/// Runs the command that the words say. Over files in memory no partner fails.
 fn run<R: Threads + Wait + Sync>(rt: &HostRuntime, threads: &R, words: &[Word]) -> Status
     ensures usage { result ≡ Usage → (options_of words.now ≡ None) × (shared_options_of words.now ≡ None) × (count_of words.now ≡ None) }
     ensures others { options_of words.now ≡ None → shared_options_of words.now ≡ None → count_of words.now ≡ None → (result ≡ Usage) ⊎ (result ≡ NoMemory) }
-    ensures unplanned { result ≢ PartnerFault }
+    ensures unplanned { asks_for_folder words.now ≡ false → result ≢ PartnerFault }
 {
     if asks_for_jobs(words) {
         run_number(rt, words)
     } else if asks_for_threads(words) {
         run_on_threads(rt, threads, words)
+    } else if asks_for_folder(words) {
+        run_in_folder(rt, words)
     } else {
         run_script(rt, words)
     }

@@ -17,7 +17,7 @@ use uring_streams::{Sink, Source, write_all};
 use uring_text::Status;
 
 /// Reads a script from the input, runs it over the partner, and writes its report. The words are
-/// those after the program's name: `run`, and then options, each a name and a number of 32 bits:
+/// those after the program's name: `run` or `std`, and then options, each a name and a number of 32 bits:
 /// `--sq` and `--cq` for the sizes of the rings, `--start` for the position at which they begin,
 /// and `--idle` for the turns in a row that may pass with neither a take nor a final post. Other
 /// words do nothing.

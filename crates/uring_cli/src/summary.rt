@@ -39,7 +39,7 @@ fn count_turns(journal: &[Event]) -> usize
 
 /// How many bytes a file has.
 fn count_bytes(partner: &MemoryPartner, number: u32) -> u64
-    ensures { result ≡ bytes_of (state_of partner.now).world number }
+    ensures { result ≡ bytes_of (state_of partner.now).world.files number }
 {
     partner.file_len(number).unwrap_or(0) as u64
 }
@@ -65,7 +65,7 @@ pub fn summary_text(
 
 /// How many bytes files 0 to 3 have.
 pub fn all_bytes(partner: &MemoryPartner) -> u128
-    ensures { result ≡ bytes_in (state_of partner.now).world }
+    ensures { result ≡ bytes_in (state_of partner.now).world.files }
 {
     let first = count_bytes(partner, 0) as u128 + count_bytes(partner, 1) as u128;
     first + count_bytes(partner, 2) as u128 + count_bytes(partner, 3) as u128

@@ -63,6 +63,7 @@ fn each_call(rt: HostRuntime) -> Result<(), Fail> {
     for (line, script, report) in [
         ("run", HELLO, HELLO_REPORT),
         ("run --sq 1 --idle 1", QUIET, QUIET_REPORT),
+        ("std", HELLO, HELLO_REPORT),
     ] {
         let (status, text) = called(rt.alloc(), line, script, &Fails::default())?;
         assert_eq!(rt; status, Status::Done, "{line}");
@@ -115,6 +116,8 @@ fn refusals(rt: HostRuntime) -> Result<(), Fail> {
         ("gen 1", HELLO, Status::Usage),
         ("runs", HELLO, Status::Usage),
         ("run run", HELLO, Status::Usage),
+        ("std run", HELLO, Status::Usage),
+        ("std --idle 0", HELLO, Status::Usage),
         ("run --sq", HELLO, Status::Usage),
         ("run --sq 08", HELLO, Status::Usage),
         ("run --sq +8", HELLO, Status::Usage),

@@ -1,8 +1,8 @@
-//! The words of the command `run`.
+//! The words of the commands that read a script.
 
 ghost use Rattle.std.specs.Prelude.{◌≡◌, ◌+◌, ◌<◌, ◌≤◌, IfSome};
 ghost use Rattle.uring_text.specs.Lines.{number_below};
-ghost use Rattle.uring_cli.specs.Words.{asks_for_threads, given_by, in_force, nothing_given, options_of, shared_options_of, with_option};
+ghost use Rattle.uring_cli.specs.Words.{asks_for_folder, asks_for_threads, given_by, in_force, is_command, nothing_given, options_of, shared_options_of, with_option};
 
 use uring_base::Buf;
 use uring_text::number_to;
@@ -115,14 +115,22 @@ fn given_by(words: &[Word]) -> Option<Given>
     Some(given)
 }
 
-/// The options of the command `run`, where the words are its name and then options.
+/// Whether the word names a command that runs a script on the program's own thread: `run` or `std`.
+fn is_command(name: &Word) -> bool
+    ensures { result ≡ is_command name.now }
+{
+    name.as_slice() == b"run".as_slice() || name.as_slice() == b"std".as_slice()
+}
+
+/// The options of the commands `run` and `std`, where the words are a command's name and then
+/// options.
 #[tactic(auto, unfolding(crate::specs::Words::options_of))]
 pub fn options_of(words: &[Word]) -> Option<Options>
     ensures options { result ≡ options_of words.now }
     ensures idle { IfSome result (λ options. 0 < options.idle) }
 {
     let (name, settings) = words.split_first()?;
-    if name.as_slice() != b"run".as_slice() {
+    if !is_command(name) {
         return None;
     }
     let given = given_by(settings)?;
@@ -144,6 +152,16 @@ pub fn shared_options_of(words: &[Word]) -> Option<Options>
         return None;
     }
     Some(given.in_force())
+}
+
+/// Whether the first word is `std`.
+pub fn asks_for_folder(words: &[Word]) -> bool
+    ensures { result ≡ asks_for_folder words.now }
+{
+    match words.first() {
+        Some(name) => name.as_slice() == b"std".as_slice(),
+        None => false,
+    }
 }
 
 /// Whether the first word is `shared`.

@@ -16,7 +16,7 @@ returns-in_err-report-clause-err c =
 pub returns-in-Ok-summary_text-clause-ok : goal.returns-in-Ok-summary_text-clause-ok
 returns-in-Ok-summary_text-clause-ok c =
     let run = c.in_ok-report.ensures in
-    ran c.runs_go_in_groups.ensures.order c.runs_go_in_groups.ensures.all c.jobs_are_valid.ensures c.args.count c.in-Ok-generate.jobs.items c.put_empty_files.new.partner c.run_jobs.new.partner c.in_ok-report.report c.in-Ok-summary_text.text
+    ran c.runs_go_in_groups.ensures.order c.jobs_are_valid.ensures c.args.count c.in-Ok-generate.jobs.items c.put_empty_files.new.partner c.run_jobs.new.partner c.in_ok-report.report c.in-Ok-summary_text.text
     c.in-Ok-generate.ensures
     (state_is c.put_empty_files.new.partner _ c.in-Ok.ensures.ok)
     (log_is c.put_empty_files.new.partner [] (c.in-Ok.ensures.log ∙ c.requires.log))

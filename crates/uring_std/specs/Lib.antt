@@ -1,0 +1,6 @@
+pub mod Answers
+pub mod Chains
+pub mod Turns
+pub mod Paths
+pub mod Numbers
+pub mod Told
